@@ -8,7 +8,7 @@ use Rattle.unftp_control_defs.specs.Rules.{row_of}
 use Rattle.unftp_control_defs.specs.Verbs.{upper, verb_of}
 use Rattle.unftp_control_defs.specs.declared.verb.Verb.{Verb}
 use Rattle.unftp_control_defs.specs.declared.verb.Verb.TheVariants as verb
-use Rattle.unftp_control_relay.specs.Filtering.{AnswerWith, AsItIs, Decision, FilterLaw, Forward}
+use Rattle.unftp_control_proxy.specs.Filtering.{AnswerWith, AsItIs, Decision, FilterLaw, Forward}
 
 -- the verbs that log in, ask or read; not MDTM, by which some servers set a file's time
 abbrev pub allows : Verb → Bool

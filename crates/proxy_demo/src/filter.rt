@@ -2,7 +2,7 @@
 ghost use Rattle.std.specs.Prelude.{◌≡◌, ⊤, IfOk};
 ghost use Rattle.unftp_control_defs.specs.Outcome.{outcome};
 ghost use Rattle.unftp_control_codecs.specs.Memory.{PartsTo};
-ghost use Rattle.unftp_control_relay.specs.Filtering.{decision_of};
+ghost use Rattle.unftp_control_proxy.specs.Filtering.{decision_of};
 ghost use Rattle.proxy_demo.specs.Allowed.{allows, decided, may_go_as_it_is, only_reads};
 
 use std::alloc::{AllocError, Global};
@@ -11,7 +11,7 @@ use unftp_control_defs::verb::{Verb, verb_named};
 use unftp_control_message::parts::Parts;
 use unftp_control_message::reply::ReplyCode;
 use unftp_control_message::reply::error::ParseErrorKind;
-use unftp_control_relay::{Filter, Verdict};
+use unftp_control_proxy::{Filter, Verdict};
 
 /// Whether a line of this verb may go to the server: one that logs in, asks or reads. MDTM is not
 /// among them, since some servers take a time before its path, and give it to the file.

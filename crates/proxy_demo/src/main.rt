@@ -22,7 +22,7 @@ fn run(rt: &HostRuntime) -> io::Result<()> {
     let alloc = rt.alloc();
     let reader = BufReader::new(alloc, rt.reader())?;
     let mut writer = BufWriter::new(alloc, rt.stdout())?;
-    let mut session = Session::new(alloc)?;
+    let mut session = Session::new(alloc);
     for line in reader.lines(alloc) {
         let line = line?;
         let piece = read_piece(alloc, line.as_str())?;

@@ -1,11 +1,10 @@
 //! One connection through the proxy.
 use crate::filter::OnlyReads;
 use crate::pieces::{Piece, Quoted};
-use std::alloc::{AllocError, Global};
+use std::alloc::Global;
 use std::io;
 use std::io::Write;
-use unftp_control_proxy::Limits;
-use unftp_control_relay::{End, Relay};
+use unftp_control_proxy::{End, Limits, Relay};
 
 const LIMITS: Limits = Limits {
     line: 4096,
@@ -22,10 +21,10 @@ pub struct Session {
 
 impl Session {
     /// A session that was given nothing.
-    pub fn new(alloc: Global) -> Result<Session, AllocError> {
-        Ok(Session {
-            relay: Relay::new(alloc, LIMITS, OnlyReads)?,
-        })
+    pub fn new(alloc: Global) -> Session {
+        Session {
+            relay: Relay::new(alloc, LIMITS, OnlyReads),
+        }
     }
 
     /// Takes a piece, writes what each side is sent for it, and reports whether the connection goes
@@ -71,7 +70,7 @@ impl Session {
             }
             End::Malformed => writer.write_all(b"malformed\n")?,
             End::TooLong => writer.write_all(b"too-long\n")?,
-            End::Closed => {} // it reads no stream
+            End::Tls => writer.write_all(b"tls\n")?,
         }
         writer.write_all(b"end\n")
     }

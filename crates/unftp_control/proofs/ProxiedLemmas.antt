@@ -6,10 +6,9 @@ use Rattle.unftp_control_defs.specs.FtpReply.{FtpReply, encoded}
 use Rattle.unftp_control_defs.specs.ReplyReader.{HasFront}
 use Rattle.unftp_control_defs.specs.Run.{SessionLaw, all_said, run_of, text_of}
 use Rattle.unftp_control_defs.specs.TakingSteps.{AreTakingSteps, TakesReply, TakingStep, all_pushed, all_taken}
-use Rattle.unftp_control_proxy.specs.ProxyCalls.{new_proxy}
+use Rattle.unftp_control_proxy.specs.ProxyCalls.{ProxyState, new_proxy}
 use Rattle.unftp_control_proxy.specs.Traffic.{ChangesNothing, IsTraffic, Traffic, client_lines}
 use Rattle.unftp_control_proxy.specs.declared.proxy.Limits.{Limits}
-use Rattle.unftp_control_proxy.specs.declared.proxy.Proxy.{Proxy}
 use Rattle.unftp_control_proxy.proofs.TrafficLemmas.{same_bytes, same_events}
 use Rattle.unftp_control_serve.specs.Writing.{Begins}
 use Rattle.unftp_control.specs.Acts.{IsUnderstood, Server, turns_to, written_by}
@@ -23,7 +22,7 @@ unlimited law state greeting =
     record { law = law; state = state; limit = None; greeting = greeting }
 
 module _ {S : Type 0} (law : SessionLaw S) (state : S) (greeting : FtpReply) {limits : Limits}
-    {traffic : Traffic} {later : Proxy} (is : IsTraffic (new_proxy limits) traffic later)
+    {traffic : Traffic} {later : ProxyState} (is : IsTraffic (new_proxy limits) traffic later)
     (same : ChangesNothing traffic)
     (clear : IsUnderstood
     (turns_to (unlimited law state greeting) (concat (client_lines traffic.lines))))

@@ -71,13 +71,12 @@ pub use Rattle.unftp_control_client.specs.Steps
 pub use Rattle.unftp_control_client.specs.ForwardingSteps
 pub use Rattle.unftp_control_log.specs.LogLine
 pub use Rattle.unftp_control_log.specs.Known
-pub use Rattle.unftp_control_proxy.specs.Owed
-pub use Rattle.unftp_control_proxy.specs.Given
 pub use Rattle.unftp_control_proxy.specs.ClientLines
+pub use Rattle.unftp_control_proxy.specs.Answers
 pub use Rattle.unftp_control_proxy.specs.ProxyCalls
 pub use Rattle.unftp_control_proxy.specs.Traffic
-pub use Rattle.unftp_control_relay.specs.Filtering
-pub use Rattle.unftp_control_relay.specs.Relaying
+pub use Rattle.unftp_control_proxy.specs.Filtering
+pub use Rattle.unftp_control_proxy.specs.Relaying
 pub use Rattle.unftp_control_record.specs.Exchanges
 pub use Rattle.unftp_control_record.specs.ToCome
 pub use Rattle.unftp_control_record.specs.Recording

@@ -21,5 +21,4 @@ pub use unftp_control_message::{parts, password, reply, sent};
 pub use unftp_control_proxy as proxy;
 pub use unftp_control_read as read;
 pub use unftp_control_record as record;
-pub use unftp_control_relay as relay;
 pub use unftp_control_serve as serve;

@@ -1,7 +1,7 @@
 -- How far the dialogue of a client with a server has come (RFC 959, sections 4.2 and 5.4). The
 -- server greets the client, and then replies to its commands in order. Each gets some preliminary
 -- replies and then a final one.
-use Rattle.std.specs.Prelude.{ℕ, suc, ◌-◌, ◌&&◌, ◌||◌, ◌==◌, Bool, false, if◌then◌else◌, nat_lt, Option, Some, None, unwrap_or, codes}
+use Rattle.std.specs.Prelude.{ℕ, suc, ◌-◌, ◌&&◌, ◌||◌, ◌==◌, Bool, false, true, if◌then◌else◌, nat_le, nat_lt, Option, Some, None, unwrap_or, codes}
 use Rattle.std.specs.Str.{str_eq_ignore_ascii_case}
 use Rattle.unftp_control_defs.specs.Bytes.{Bytes}
 use Rattle.unftp_control_defs.specs.Turns.{is_preliminary}
@@ -41,6 +41,23 @@ first_owed (Some answered) sent = if nat_lt answered sent then Command answered 
 
 abbrev pub next_to : Dialogue → To
 next_to dialogue = first_owed dialogue.answered dialogue.sent
+
+-- The next reply is owed.
+abbrev pub is_something : To → Bool
+is_something Nothing = false
+is_something _ = true
+
+abbrev pub owes_reply : Dialogue → Bool
+owes_reply dialogue = is_something (next_to dialogue)
+
+-- The command of this place has no final reply, where so many have one.
+abbrev pub is_unanswered : Option ℕ → Option ℕ → Bool
+is_unanswered None answered = false
+is_unanswered (Some place) answered = nat_le (unwrap_or answered 0) place
+
+-- The last command that asks for TLS is owed its reply.
+abbrev pub awaits_tls : Dialogue → Bool
+awaits_tls dialogue = is_unanswered dialogue.asked dialogue.answered
 
 -- A final reply to this came.
 abbrev pub after_final : Dialogue → To → Dialogue

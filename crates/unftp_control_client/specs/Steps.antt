@@ -5,6 +5,7 @@ use Rattle.unftp_control_defs.specs.Bytes.{Bytes}
 use Rattle.unftp_control_defs.specs.TakingSteps.{TakesReply, TakingStep, Pushed, Taken}
 use Rattle.unftp_control_read.specs.ReplyDecoding.{content}
 use Rattle.unftp_control_defs.specs.Turns.{is_preliminary}
+pub use Rattle.unftp_control_client.specs.Dialogue.{is_something}
 use Rattle.unftp_control_client.specs.Dialogue.{after_line, after_reply, asks_for_tls, next_to}
 use Rattle.unftp_control_client.specs.declared.Client.{Client}
 use Rattle.unftp_control_client.specs.declared.dialogue.ClientReply.{ClientReply}
@@ -74,10 +75,6 @@ abbrev pub replies_taken : List ClientStep → List ReplyTo
 replies_taken steps = filter_map taken_by steps
 
 -- and those of them that were owed
-abbrev pub is_something : To → Bool
-is_something Nothing = false
-is_something _ = true
-
 abbrev pub was_owed : ReplyTo → Bool
 was_owed taken = is_something taken.to
 

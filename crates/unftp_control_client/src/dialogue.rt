@@ -2,7 +2,7 @@
 ghost use Rattle.std.specs.Prelude.{◌≡◌, ◌↔◌, ◌-◌, ◌^◌, IsTrue, MatchOption};
 ghost use Rattle.std.specs.Str.{str_eq_ignore_ascii_case};
 ghost use Rattle.unftp_control_defs.specs.Turns.{is_preliminary};
-ghost use Rattle.unftp_control_client.specs.Dialogue.{after_line, after_reply, asks_for_tls, at_start, commands_owed, next_to};
+ghost use Rattle.unftp_control_client.specs.Dialogue.{after_line, after_reply, asks_for_tls, at_start, awaits_tls, commands_owed, next_to, owes_reply};
 ghost use Rattle.unftp_control_client.specs.Steps.{reply_to};
 ghost use Rattle.unftp_control_client.specs.declared.dialogue.ClientReply.{ClientReply as RustReply};
 ghost use Rattle.unftp_control_client.specs.declared.dialogue.To.{To as RustTo};
@@ -97,6 +97,27 @@ impl Dialogue {
         ensures { result ≡ commands_owed self.now }
     {
         self.sent.saturating_sub(self.answered.unwrap_or(0))
+    }
+
+    /// Whether a reply is owed: the greeting, or one to a command.
+    pub fn owes_reply(&self) -> bool
+        ensures { result ≡ owes_reply self.now }
+    {
+        match self.answered {
+            Some(answered) => answered < self.sent,
+            None => true,
+        }
+    }
+
+    /// Whether the last command that asks for TLS is owed its reply. What comes after its line may
+    /// be no line (RFC 4217, section 4).
+    pub fn awaits_tls(&self) -> bool
+        ensures { result ≡ awaits_tls self.now }
+    {
+        match self.asked {
+            Some(place) => self.answered.unwrap_or(0) <= place,
+            None => false,
+        }
     }
 
     /// Notes that the line of a command is sent, and returns the command's place. Where 64 bits

@@ -7,8 +7,7 @@ use Rattle.unftp_control_defs.specs.FtpReply.{FtpReply, CodeAndMsg, HasThreeDigi
 use Rattle.unftp_control_defs.specs.ReplyReader.{FrontReply}
 use Rattle.unftp_control_defs.specs.Turns.{is_preliminary}
 use Rattle.unftp_control_defs.proofs.EncodingLemmas.{FrontReply-encoded}
-use Rattle.unftp_control_proxy.specs.Given.{IsFinalReply}
-use Rattle.unftp_control_proxy.specs.ProxyCalls.{has_three_digits, is_answer, is_final, is_one_line, is_plain_reply}
+use Rattle.unftp_control_proxy.specs.Answers.{IsFinalReply, as_read, has_three_digits, is_answer, is_final, is_one_line, is_plain_reply}
 
 -- ---- the test says what is plain
 
@@ -86,3 +85,12 @@ read_as_one (MultiLine code lines) h =
     let reply = MultiLine code lines in
     let parts = and_parts (is_final reply) (is_plain_reply reply) h in
     (code, (_, whole reply parts.1 refl), not-true (is_preliminary code) parts.0)
+
+-- what is read of it is final
+pub read_is_final : (reply : FtpReply) → is_answer reply ≡ true
+    → is_preliminary (as_read reply).0 ≡ false
+read_is_final Nothing h = absurd (false≢true h)
+read_is_final (CodeAndMsg code text) h =
+    not-true (is_preliminary code) (and_parts _ (is_plain_reply (CodeAndMsg code text)) h).0
+read_is_final (MultiLine code lines) h =
+    not-true (is_preliminary code) (and_parts _ (is_plain_reply (MultiLine code lines)) h).0

@@ -1,7 +1,7 @@
-pub mod AnswerLemmas
 pub mod ClientLemmas
-pub mod OrderLemmas
+pub mod AnswerLemmas
 pub mod SendLemmas
 pub mod TrafficLemmas
 pub mod CallLemmas
-pub mod ReplaceLemmas
+pub mod FilterLemmas
+pub mod RelayLemmas

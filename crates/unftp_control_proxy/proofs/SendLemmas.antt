@@ -1,55 +1,65 @@
 -- Why a line is not sent.
-use Rattle.std.proofs.Common.{Result, Ok, Err, OnOk, ◌≡◌, ℕ, [], ◌∷◌, ◌++◌, length, length-append, drop, take, arith, ap, refl, subst, ◌∙◌}
+use Rattle.std.specs.Global.{Vec}
 use Rattle.std.specs.Prelude.{IfErr, OnErr}
+use Rattle.std.proofs.Common.{Result, Ok, Err, OnOk, ◌≡◌, ℕ, [], ◌∷◌, ◌++◌, length, length-append, drop, take, arith, ap, refl, subst, ◌∙◌}
 use Rattle.std.proofs.Math.Seq.{drop-append_seam, take-append_seam}
 use Rattle.unftp_control_defs.specs.Bytes.{Bytes, LF}
 use Rattle.unftp_control_defs.specs.Forwarded.{forwarded_line}
 use Rattle.unftp_control_defs.specs.Lines.{IsLine}
-use Rattle.unftp_control_write.specs.Forwarding.{IsForwardError, IsForwarded}
+use Rattle.unftp_control_write.specs.Forwarding.{IsForwardError, IsForwarded, LacksRoomFor}
 use Rattle.unftp_control_write.specs.declared.forwarding.ForwardError.{ForwardError}
 use Rattle.unftp_control_write.specs.declared.forwarding.ForwardError.TheVariants as forward
-use Rattle.unftp_control_proxy.specs.ProxyCalls.{IsDecidable, IsForwardingError, IsSendError, send_error}
+use Rattle.unftp_control_proxy.specs.ProxyCalls.{IsAppendedError, IsDecidable, IsForwardingError, ProxyState, send_error}
 use Rattle.unftp_control_proxy.specs.declared.errors.SendError.{SendError}
 use Rattle.unftp_control_proxy.specs.declared.errors.SendError.TheVariants as send
-use Rattle.unftp_control_proxy.specs.declared.proxy.Proxy.{Proxy}
 
-module _ (proxy : Proxy) (line : Bytes) where
-  pub not_forwarded : IsDecidable proxy → (error : ForwardError) → IsForwardError line error
-      → IsForwardingError proxy line (send_error error)
-  not_forwarded may forward.NotALine why = (may, why)
-  not_forwarded may (forward.Refused kind) why = (may, why)
-  not_forwarded may forward.OutOfMemory why = (may, why)
+module _ (proxy : ProxyState) (line : Bytes) (out : Vec ℕ) where
+  pub not_forwarded : {T : Type 0} (result : Result T ForwardError) → IsDecidable proxy
+      → (error : ForwardError) → result ≡ Err error → IsForwardError line error
+      → (result ≡ Err forward.OutOfMemory → LacksRoomFor line out)
+      → IsForwardingError proxy line out (send_error error)
+  not_forwarded result may forward.NotALine is why room = (may, why)
+  not_forwarded result may (forward.Refused kind) is why room = (may, why)
+  not_forwarded result may forward.OutOfMemory is why room = (may, room is)
 
   -- what would be forwarded is not sent, for the reason that `send_appended` returns
-  pub not_sent : {before after sent : Bytes} → IsForwarded line before after
-      → sent ≡ drop (length before) after → (error : SendError)
-      → IsSendError proxy sent error → IsForwardingError proxy line error
-  not_sent {before} {after} {sent} forwarded is error why =
-      by_error error (subst (λ sent. IsSendError proxy sent error) appended why)
+  not_sent : {before after sent : Bytes} → IsForwarded line before after
+      → sent ≡ drop (length before) after → IsDecidable proxy → (error : SendError)
+      → IsAppendedError proxy sent error → IsForwardingError proxy line out error
+  not_sent {before} {after} {sent} forwarded is may error why =
+      by_error error (subst (λ sent. IsAppendedError proxy sent error) appended why)
     where
       appended : sent ≡ forwarded_line line forwarded.command
       appended = is ∙ ap (drop (length before)) forwarded.appended
           ∙ drop-append_seam before (forwarded_line line forwarded.command)
 
       by_error : (error : SendError)
-          → IsSendError proxy (forwarded_line line forwarded.command) error
-          → IsForwardingError proxy line error
+          → IsAppendedError proxy (forwarded_line line forwarded.command) error
+          → IsForwardingError proxy line out error
       by_error send.NoLine why = why
       by_error send.NotALine why = absurd (why.1 forwarded.is_line)
       by_error (send.Refused kind) why = absurd why.1
-      by_error send.Unclear why =
-          (why.0, record { command = forwarded.command; means = forwarded.means; unsent = why.1 })
-      by_error send.TooLong why =
-          (why.0, record { command = forwarded.command; means = forwarded.means; unsent = why.1 })
+      by_error send.Unclear why = (
+        may,
+        record { command = forwarded.command; means = forwarded.means; unsent = why },
+      )
+      by_error send.TooLong why = (
+        may,
+        record { command = forwarded.command; means = forwarded.means; unsent = why },
+      )
       by_error send.NotFinal why = absurd why.1
       by_error send.NotPlain why = absurd why.1
-      by_error send.OutOfMemory why = (why.0, rw forwarded.means refl)
+      by_error send.TooManyCommands why = (
+        may,
+        record { command = forwarded.command; means = forwarded.means; unsent = why },
+      )
+      by_error send.OutOfMemory why = absurd why.1
 
   pub send_appended : {T : Type 0} (result : Result T SendError) {before after sent : Bytes}
-      → IsForwarded line before after → sent ≡ drop (length before) after
-      → IfErr result (IsSendError proxy sent) → IfErr result (IsForwardingError proxy line)
-  send_appended (Ok done) forwarded is why = tt
-  send_appended (Err error) forwarded is why = not_sent forwarded is error why
+      → IsForwarded line before after → sent ≡ drop (length before) after → IsDecidable proxy
+      → IfErr result (IsAppendedError proxy sent) → IfErr result (IsForwardingError proxy line out)
+  send_appended (Ok done) forwarded is may why = tt
+  send_appended (Err error) forwarded is may why = not_sent forwarded is may error why
 
 -- what was appended is removed again
 pub removed_again : {T E : Type 0} (result : Result T E) (n : ℕ) (before later : Bytes)
@@ -67,7 +77,3 @@ empty_is_no_line line empty is =
 pub on_ok : {T E : Type 0} (result : Result T E) {P : Type 0} → P → OnOk result P
 on_ok (Ok done) holds = holds
 on_ok (Err error) holds = tt
-
-pub on_err : {T E : Type 0} (result : Result T E) {P : Type 0} → P → OnErr result P
-on_err (Ok done) holds = tt
-on_err (Err error) holds = holds

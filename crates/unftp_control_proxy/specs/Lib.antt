@@ -1,6 +1,7 @@
 -- To be read in this order.
-pub mod Owed
-pub mod Given
 pub mod ClientLines
+pub mod Answers
 pub mod ProxyCalls
 pub mod Traffic
+pub mod Filtering
+pub mod Relaying

@@ -1,66 +1,99 @@
 -- What the calls of a proxy do to it, and what they append.
-use Rattle.std.specs.Prelude.{⊤, ◌≡◌, ◌⊎◌, ℕ, ◌<◌, ◌≤◌, ◌==◌, ◌&&◌, Bool, true, false, nat_le, nat_lt, not, List, [], ◌∷◌, ◌++◌, Option, Some, None, Result, Ok, Err, IsTrue, drop, length, take}
+use Rattle.std.specs.Prelude.{⊤, ◌≡◌, ◌⊎◌, ℕ, ◌+◌, ◌^◌, ◌-◌, ◌<◌, ◌≤◌, ◌||◌, ◌&&◌, Bool, true, false, nat_le, not, List, [], ◌++◌, Option, Some, None, IfSome, Result, Ok, Err, IsTrue, drop, is_some, length, option_map, take}
 use Rattle.std.specs.Global.{Vec}
-use Rattle.std.specs.List.{list_all}
-use Rattle.unftp_control_defs.specs.Bytes.{Bytes, LF}
+use Rattle.unftp_control_defs.specs.Bytes.{Bytes}
 use Rattle.unftp_control_defs.specs.Forwarded.{forwarded_line}
 use Rattle.unftp_control_defs.specs.FtpCommand.{FtpCommand}
-use Rattle.unftp_control_defs.specs.FtpReply.{FtpReply, CodeAndMsg, MultiLine, Nothing}
+use Rattle.unftp_control_defs.specs.FtpReply.{FtpReply, encoded}
 use Rattle.unftp_control_defs.specs.Lines.{IsLine}
 use Rattle.unftp_control_defs.specs.Outcome.{outcome}
-use Rattle.unftp_control_defs.specs.Turns.{is_preliminary_reply}
+use Rattle.unftp_control_defs.specs.ReplyReader.{FrontReply}
+use Rattle.unftp_control_defs.specs.Room.{LacksRoom}
 use Rattle.unftp_control_read.specs.ReplyDecoding.{BeginsWith, FindsFirst, PendingReplies, no_bytes}
 use Rattle.unftp_control_read.specs.declared.decoder.FirstReply.{FirstReply}
 use Rattle.unftp_control_read.specs.declared.errors.NextReplyError.{NextReplyError}
 use Rattle.unftp_control_read.specs.declared.errors.NextReplyError.TheVariants as next
-use Rattle.unftp_control_write.specs.Forwarding.{IsForwardError}
+use Rattle.unftp_control_write.specs.ClearLines.{is_clear}
+use Rattle.unftp_control_write.specs.Forwarding.{IsForwardError, LacksRoomFor}
 use Rattle.unftp_control_write.specs.declared.forwarding.ForwardError.{ForwardError}
 use Rattle.unftp_control_write.specs.declared.forwarding.ForwardError.TheVariants as forward
-use Rattle.unftp_control_write.specs.ClearLines.{is_clear}
-use Rattle.unftp_control_defs.specs.Room.{LacksRoom}
-use Rattle.unftp_control_proxy.specs.ClientLines.{front_line, no_client_bytes, without_line}
-use Rattle.unftp_control_proxy.specs.Given.{IsWholeReply, ReplyBytes}
-use Rattle.unftp_control_proxy.specs.Owed.{Owed, IsReplyNext, Reply, after_due, after_reply, due}
+use Rattle.unftp_control_client.specs.Dialogue.{after_line, after_reply, at_start, awaits_tls, commands_owed, owes_reply}
+use Rattle.unftp_control_client.specs.declared.dialogue.Dialogue.{Dialogue}
+use Rattle.unftp_control_proxy.specs.Answers.{IsNoAnswer, IsReplyOf, answer_of, is_answer}
+use Rattle.unftp_control_proxy.specs.ClientLines.{Client, front_line, no_client_bytes, without_line}
+use Rattle.unftp_control_proxy.specs.declared.answer.Answer.{Answer}
 use Rattle.unftp_control_proxy.specs.declared.proxy.Limits.{Limits}
-use Rattle.unftp_control_proxy.specs.declared.proxy.Proxy.{Proxy}
-use Rattle.unftp_control_proxy.specs.declared.proxy.ServerReply.{ServerReply}
-use Rattle.unftp_control_proxy.specs.declared.proxy.ServerReply.TheVariants as server
+use Rattle.unftp_control_proxy.specs.declared.proxy.NextReply.{NextReply}
+use Rattle.unftp_control_proxy.specs.declared.proxy.NextReply.TheVariants as given
 use Rattle.unftp_control_proxy.specs.declared.errors.ReplaceError.{ReplaceError}
 use Rattle.unftp_control_proxy.specs.declared.errors.ReplaceError.TheVariants as replace
 use Rattle.unftp_control_proxy.specs.declared.errors.SendError.{SendError}
 use Rattle.unftp_control_proxy.specs.declared.errors.SendError.TheVariants as send
 
+pub record ProxyState : Type 0 where
+  -- what came from both sides and was not taken
+  pub client : Client
+  pub server : PendingReplies
+  -- which reply is to which of the lines that were sent to the server
+  pub dialogue : Dialogue
+  -- the proxy's own answer to the line after these, until it is given
+  pub answer : Option FtpReply
+  pub limits : Limits
+
+abbrev pub proxy_state : Client → PendingReplies → Dialogue → Option Answer → Limits → ProxyState
+proxy_state client server dialogue answer limits = record {
+  client = client;
+  server = server;
+  dialogue = dialogue;
+  answer = option_map answer_of answer;
+  limits = limits;
+}
+
 -- nothing was said: the client is owed the server's greeting
-abbrev pub new_proxy : Limits → Proxy
+abbrev pub new_proxy : Limits → ProxyState
 new_proxy limits = record {
   client = no_client_bytes limits.line;
   server = no_bytes (Some limits.reply);
-  order = Reply ∷ [];
-  alone = false;
-  next_alone = false;
+  dialogue = at_start;
+  answer = None;
   limits = limits;
 }
 
 -- ---- the client's lines
 
--- As much is owed as may be; or something is, and the line before is to stand alone.
-abbrev pub WaitsForServer : Proxy → Type 0
-WaitsForServer proxy = (proxy.limits.waiting ≤ length proxy.order)
-    ⊎ (IsTrue proxy.alone × (0 < length proxy.order))
+-- how many replies the server owes: the greeting, and the final ones to commands
+abbrev pub greeting_owed : Option ℕ → ℕ
+greeting_owed None = 1
+greeting_owed (Some answered) = 0
+
+abbrev pub server_owes : Dialogue → ℕ
+server_owes dialogue = commands_owed dialogue + greeting_owed dialogue.answered
+
+-- As many are owed as may be; or an answer waits to be given, or a line for TLS to begin.
+abbrev pub waits : ProxyState → Bool
+waits proxy = nat_le proxy.limits.waiting (server_owes proxy.dialogue)
+    || (is_some proxy.answer || awaits_tls proxy.dialogue)
 
 -- the client's first line was found, and may be taken
-pub record IsDecidable (proxy : Proxy) : Type 0 where
+pub record IsDecidable (proxy : ProxyState) : Type 0 where
   pub found : IsTrue proxy.client.found
   pub is_line : IsLine (front_line proxy.client.bytes)
-  pub goes_on : ¬ WaitsForServer proxy
+  pub goes_on : waits proxy ≡ false
 
--- The line is taken, and the client is owed this for it.
-abbrev pub decided : Proxy → Owed → Proxy
-decided proxy owed = record proxy {
+-- This line is sent to the server for the client's; or the client is given this reply instead.
+pub data Fate : Type 0 where
+  SentAs : Bytes → Fate
+  AnsweredBy : FtpReply → Fate
+
+-- The line is taken, with this fate.
+abbrev pub decided : ProxyState → Fate → ProxyState
+decided proxy (SentAs line) = record proxy {
   client = without_line proxy.client;
-  order = proxy.order ++ owed ∷ [];
-  alone = proxy.next_alone;
-  next_alone = false;
+  dialogue = after_line line proxy.dialogue;
+}
+decided proxy (AnsweredBy reply) = record proxy {
+  client = without_line proxy.client;
+  answer = Some reply;
 }
 
 -- the line may be sent
@@ -72,6 +105,16 @@ pub record MayBeSent (limit : ℕ) (line : Bytes) : Type 0 where
 abbrev pub is_out_of_memory : SendError → Bool
 is_out_of_memory send.OutOfMemory = true
 is_out_of_memory _ = false
+
+-- the line could be sent once there is memory, or were fewer sent: no other answer is due for it
+abbrev pub stops : SendError → Bool
+stops send.OutOfMemory = true
+stops send.TooManyCommands = true
+stops _ = false
+
+-- as many lines were sent as are counted
+abbrev pub IsFull : Dialogue → Type 0
+IsFull dialogue = dialogue.sent ≡ 2 ^ 64 - 1
 
 -- why a line is not sent
 abbrev pub IsUnsent : ℕ → Bytes → SendError → Type 0
@@ -87,170 +130,173 @@ send_error (forward.Refused kind) = send.Refused kind
 send_error forward.OutOfMemory = send.OutOfMemory
 
 -- why this line may not be sent in place of the client's
-abbrev pub IsCheckError : Proxy → Bytes → SendError → Type 0
+abbrev pub IsCheckError : ProxyState → Bytes → SendError → Type 0
 IsCheckError proxy line send.NoLine = ¬ IsDecidable proxy
 IsCheckError proxy line error = IsDecidable proxy × IsUnsent proxy.limits.sent line error
 
--- why it is not sent: it may not be, or memory ran out
-abbrev pub IsSendError : Proxy → Bytes → SendError → Type 0
-IsSendError proxy line send.OutOfMemory = IsDecidable proxy × MayBeSent proxy.limits.sent line
-IsSendError proxy line error = IsCheckError proxy line error
+-- why it is not sent where it was appended: it may not be, or too many were
+abbrev pub IsAppendedError : ProxyState → Bytes → SendError → Type 0
+IsAppendedError proxy line send.TooManyCommands =
+    IsDecidable proxy × MayBeSent proxy.limits.sent line × IsFull proxy.dialogue
+IsAppendedError proxy line error = IsCheckError proxy line error
+
+-- and where it is to be appended to these bytes: they lack room for it
+abbrev pub IsSendError : ProxyState → Bytes → Vec ℕ → SendError → Type 0
+IsSendError proxy line out send.OutOfMemory =
+    IsDecidable proxy × MayBeSent proxy.limits.sent line × LacksRoom out line
+IsSendError proxy line out error = IsAppendedError proxy line error
 
 -- why the client's line, which is this, is not sent, clear or not
-abbrev pub IsUnclearError : Proxy → Bytes → SendError → Type 0
-IsUnclearError proxy line send.NoLine = ¬ IsDecidable proxy
-IsUnclearError proxy line send.NotALine = IsDecidable proxy × ¬ IsLine line
-IsUnclearError proxy line send.TooLong =
+abbrev pub IsUnclearError : ProxyState → Bytes → Vec ℕ → SendError → Type 0
+IsUnclearError proxy line out send.NoLine = ¬ IsDecidable proxy
+IsUnclearError proxy line out send.NotALine = IsDecidable proxy × ¬ IsLine line
+IsUnclearError proxy line out send.TooLong =
     IsDecidable proxy × IsLine line × (proxy.limits.sent < length line)
-IsUnclearError proxy line send.OutOfMemory =
-    IsDecidable proxy × IsLine line × (length line ≤ proxy.limits.sent)
-IsUnclearError proxy line _ = ⊥
+IsUnclearError proxy line out send.TooManyCommands =
+    IsDecidable proxy × IsLine line × IsFull proxy.dialogue
+IsUnclearError proxy line out send.OutOfMemory =
+    IsDecidable proxy × IsLine line × (length line ≤ proxy.limits.sent) × LacksRoom out line
+IsUnclearError proxy line out _ = ⊥
 
 -- The line that would be forwarded is not sent.
-pub record IsForwardedUnsent (limit : ℕ) (line : Bytes) (error : SendError) : Type 0 where
+pub record IsForwardedUnsent (proxy : ProxyState) (line : Bytes) (error : SendError) : Type 0 where
   pub command : FtpCommand
   pub means : outcome line ≡ Ok command
-  pub unsent : IsUnsent limit (forwarded_line line command) error
-
--- why a line is not forwarded
-abbrev pub IsUnforwarded : ℕ → Bytes → SendError → Type 0
-IsUnforwarded limit line send.NotALine = ¬ IsLine line
-IsUnforwarded limit line (send.Refused kind) = IsForwardError line (forward.Refused kind)
-IsUnforwarded limit line send.OutOfMemory = IsForwardError line forward.OutOfMemory
-IsUnforwarded limit line error = IsForwardedUnsent limit line error
+  pub unsent : IsAppendedError proxy (forwarded_line line command) error
 
 -- why the client's line, which is this, is not forwarded
-abbrev pub IsForwardingError : Proxy → Bytes → SendError → Type 0
-IsForwardingError proxy line send.NoLine = ¬ IsDecidable proxy
-IsForwardingError proxy line error = IsDecidable proxy × IsUnforwarded proxy.limits.sent line error
-
--- a reply after which no other to the same line follows
-abbrev pub is_final : FtpReply → Bool
-is_final Nothing = false
-is_final reply = not (is_preliminary_reply reply)
-
--- no line feed is in the text
-abbrev pub is_one_line : Bytes → Bool
-is_one_line text = list_all (λ b. not (b == LF)) text
-
--- a client reads it back as it is: the test for `IsPlain`
-abbrev pub has_three_digits : ℕ → Bool
-has_three_digits code = nat_le 100 code && nat_lt code 1000
-
-abbrev pub is_plain_reply : FtpReply → Bool
-is_plain_reply Nothing = true
-is_plain_reply (CodeAndMsg code text) = has_three_digits code && is_one_line text
-is_plain_reply (MultiLine code lines) = has_three_digits code && list_all is_one_line lines
-
--- A line may be answered with it.
-abbrev pub is_answer : FtpReply → Bool
-is_answer reply = is_final reply && is_plain_reply reply
-
--- why no line is answered with this reply
-abbrev pub IsNoAnswer : FtpReply → SendError → Type 0
-IsNoAnswer reply send.NotFinal = is_final reply ≡ false
-IsNoAnswer reply send.NotPlain = (is_final reply ≡ true) × (is_plain_reply reply ≡ false)
-IsNoAnswer reply _ = ⊥
+abbrev pub IsForwardingError : ProxyState → Bytes → Vec ℕ → SendError → Type 0
+IsForwardingError proxy line out send.NoLine = ¬ IsDecidable proxy
+IsForwardingError proxy line out send.NotALine = IsDecidable proxy × ¬ IsLine line
+IsForwardingError proxy line out (send.Refused kind) =
+    IsDecidable proxy × IsForwardError line (forward.Refused kind)
+IsForwardingError proxy line out send.OutOfMemory = IsDecidable proxy × LacksRoomFor line out
+IsForwardingError proxy line out error =
+    IsDecidable proxy × IsForwardedUnsent proxy line error
 
 -- why this line is not answered with it
-abbrev pub IsAnswerError : Proxy → FtpReply → SendError → Type 0
+abbrev pub IsAnswerError : ProxyState → FtpReply → SendError → Type 0
 IsAnswerError proxy reply send.NoLine = ¬ IsDecidable proxy
-IsAnswerError proxy reply send.OutOfMemory = IsDecidable proxy × (is_answer reply ≡ true)
 IsAnswerError proxy reply error = IsDecidable proxy × IsNoAnswer reply error
 
--- ---- the server's replies
+-- The server has agreed to begin TLS, and owes no reply.
+pub record BeginsTls (proxy : ProxyState) : Type 0 where
+  pub agreed : IsTrue proxy.dialogue.agreed
+  pub none_owed : commands_owed proxy.dialogue ≡ 0
 
--- Answers that are due are given, all or the first of them.
-pub record GivesDue (before : Proxy) (out out' : Bytes) (later : Proxy) : Type 0 where
-  pub given : Bytes
-  pub appended : out' ≡ out ++ given
-  pub due_is : given ++ due later.order ≡ due before.order
-  pub still : after_due later.order ≡ after_due before.order
-  pub gone : List Owed
-  pub order : before.order ≡ gone ++ later.order
-  pub others : later ≡ record before { order = later.order }
+-- ---- what the client is given
 
--- all of them
-abbrev pub flushed : Proxy → Proxy
-flushed proxy = record proxy { order = after_due proxy.order }
+-- The proxy's own answer is given once the server owes no reply.
+abbrev pub is_due : ProxyState → Bool
+is_due proxy = is_some proxy.answer && not (owes_reply proxy.dialogue)
+
+-- a reply of a server: its code and lines, and all its bytes
+pub record ReplyBytes : Type 0 where
+  pub code : ℕ
+  pub lines : List Bytes
+  pub bytes : Bytes
+
+abbrev pub IsWholeReply : ReplyBytes → Type 0
+IsWholeReply reply = FrontReply reply.bytes reply.code reply.lines (length reply.bytes)
 
 -- The server's bytes begin with this reply, and these are the bytes after it.
 pub record TakesReplyBytes (before : PendingReplies) (reply : ReplyBytes) (later : PendingReplies)
     : Type 0 where
   pub used : ℕ
-  pub begins : BeginsWith before.limit before.bytes reply.code used
+  pub front : FrontReply before.bytes reply.code reply.lines used
+  pub within : IfSome before.limit (λ limit. used ≤ limit)
   pub bytes_are : reply.bytes ≡ take used before.bytes
   pub later_is : later ≡ record before { bytes = drop used before.bytes }
 
 -- It is the reply that is owed next, and the client is given this one for it.
-pub record PassesReply (before : Proxy) (came given : ReplyBytes) (later : Proxy) : Type 0 where
-  pub owed : IsReplyNext before.order
+pub record PassesReply (before : ProxyState) (came given : ReplyBytes) (later : ProxyState)
+    : Type 0 where
+  pub owed : owes_reply before.dialogue ≡ true
   pub takes : TakesReplyBytes before.server came later.server
   pub whole : IsWholeReply given
   pub same_code : given.code ≡ came.code
   pub later_is : later ≡ record before {
     server = later.server;
-    order = after_reply came.code before.order;
+    dialogue = after_reply before.dialogue came.code;
   }
 
--- There is only a part of a reply; or the reply that is owed next is given as it came; or a reply
--- came that is not owed, and stays.
-abbrev pub GivesNext : Proxy → Option ServerReply → Bytes → Bytes → Proxy → Type 0
-GivesNext before None out out' later = (out' ≡ out) × (later ≡ before)
-GivesNext before (Some (server.Passed code)) out out' later = (bytes : Bytes)
-    × (out' ≡ out ++ bytes)
-    × PassesReply before (record { code = code; bytes = bytes })
-    (record { code = code; bytes = bytes }) later
-GivesNext before (Some (server.Unasked code)) out out' later = (¬ IsReplyNext before.order)
-    × ((used : ℕ) × BeginsWith before.server.limit before.server.bytes code used)
-    × (out' ≡ out) × (later ≡ before)
+-- The client is given this answer.
+pub record GivesAnswer (before : ProxyState) (reply : FtpReply) (later : ProxyState)
+    : Type 0 where
+  pub held : before.answer ≡ Some reply
+  pub none_owed : owes_reply before.dialogue ≡ false
+  pub single : is_answer reply ≡ true
+  pub later_is : later ≡ record before { answer = None }
+
+-- the server's first reply has this code, and no line is owed it
+pub record IsUnasked (proxy : ProxyState) (code : ℕ) : Type 0 where
+  pub none_due : is_due proxy ≡ false
+  pub none_owed : owes_reply proxy.dialogue ≡ false
+  pub begins : (used : ℕ) × BeginsWith proxy.server.limit proxy.server.bytes code used
+
+-- no answer is due, and no reply is complete
+pub record IsGiven (proxy : ProxyState) : Type 0 where
+  pub none_due : is_due proxy ≡ false
+  pub no_reply : FindsFirst proxy.server.limit proxy.server.bytes (Ok None)
+
+-- There is nothing to be given; or the answer that is due is given; or the reply that is owed next,
+-- as it came; or a reply came that is not owed, and stays.
+abbrev pub GivesNext : ProxyState → Option NextReply → Bytes → Bytes → ProxyState → Type 0
+GivesNext before None out out' later = (out' ≡ out) × (later ≡ before) × IsGiven before
+GivesNext before (Some given.Answered) out out' later = (reply : FtpReply)
+    × (out' ≡ out ++ encoded reply) × GivesAnswer before reply later
+GivesNext before (Some (given.Passed code)) out out' later = (reply : ReplyBytes)
+    × (reply.code ≡ code) × (out' ≡ out ++ reply.bytes) × PassesReply before reply reply later
+GivesNext before (Some (given.Unasked code)) out out' later =
+    (out' ≡ out) × (later ≡ before) × IsUnasked before code
 
 -- the server's first reply is owed: its code, and how many bytes it has
-abbrev pub IsOwedFirst : Proxy → ℕ → ℕ → Type 0
-IsOwedFirst proxy code used = IsReplyNext proxy.order
+abbrev pub IsOwedFirst : ProxyState → ℕ → ℕ → Type 0
+IsOwedFirst proxy code used = (owes_reply proxy.dialogue ≡ true)
     × BeginsWith proxy.server.limit proxy.server.bytes code used
 
--- Why it is not given, where no answer is due: there is no room for it after these bytes; or what
--- the server sent is no reply, or too long.
-abbrev pub IsPassError : Proxy → Vec ℕ → Bytes → NextReplyError → Type 0
-IsPassError proxy out given next.OutOfMemory = (code : ℕ) × (used : ℕ)
-    × IsOwedFirst proxy code used × LacksRoom out (given ++ take used proxy.server.bytes)
-IsPassError proxy out given error = FindsFirst proxy.server.limit proxy.server.bytes (Err error)
+-- the bytes lack room for the answer that is due, or for the reply that is owed next
+pub record LacksRoomForAnswer (proxy : ProxyState) (out : Vec ℕ) : Type 0 where
+  pub reply : FtpReply
+  pub held : proxy.answer ≡ Some reply
+  pub due : is_due proxy ≡ true
+  pub room : LacksRoom out (encoded reply)
 
--- and in any state: there is no room for the answers that are due, or for it after them
-abbrev pub IsNextError : Proxy → Vec ℕ → NextReplyError → Type 0
-IsNextError proxy out next.OutOfMemory = LacksRoom out (due proxy.order)
-    ⊎ IsPassError (flushed proxy) out (due proxy.order) next.OutOfMemory
-IsNextError proxy out error = IsPassError (flushed proxy) out [] error
+abbrev pub LacksRoomForReply : ProxyState → Vec ℕ → Type 0
+LacksRoomForReply proxy out = (code : ℕ) × (used : ℕ) × IsOwedFirst proxy code used
+    × LacksRoom out (take used proxy.server.bytes)
 
--- Another one is given in place of it.
-abbrev pub GivesOther : Proxy → Bytes → Bytes → Bytes → Proxy → Type 0
-GivesOther before other out out' later = (out' ≡ out ++ other)
-    × ((came : ReplyBytes)
-    × PassesReply before came (record { code = came.code; bytes = other }) later)
+-- why nothing is given
+abbrev pub IsNextError : ProxyState → Vec ℕ → NextReplyError → Type 0
+IsNextError proxy out next.OutOfMemory =
+    LacksRoomForAnswer proxy out ⊎ LacksRoomForReply proxy out
+IsNextError proxy out error = (is_due proxy ≡ false)
+    × FindsFirst proxy.server.limit proxy.server.bytes (Err error)
+
+-- Another one is given in place of the reply that is owed next.
+pub record GivesOther (before : ProxyState) (other out out' : Bytes) (later : ProxyState)
+    : Type 0 where
+  pub came : ReplyBytes
+  pub given : ReplyBytes
+  pub bytes : given.bytes ≡ other
+  pub appended : out' ≡ out ++ other
+  pub passes : PassesReply before came given later
 
 -- No reply is complete, or what the server sent is none.
 abbrev pub IsNoReply : Result (Option FirstReply) NextReplyError → Type 0
 IsNoReply (Ok (Some reply)) = ⊥
 IsNoReply _ = ⊤
 
-abbrev pub HasNoFirstReply : Proxy → Type 0
+abbrev pub HasNoFirstReply : ProxyState → Type 0
 HasNoFirstReply proxy = (found : Result (Option FirstReply) NextReplyError)
     × FindsFirst proxy.server.limit proxy.server.bytes found × IsNoReply found
 
--- Why this other one is not given, where no answer is due, and after these bytes.
-abbrev pub IsOtherError : Proxy → Bytes → Vec ℕ → Bytes → ReplaceError → Type 0
-IsOtherError proxy other out given replace.NoReply = HasNoFirstReply proxy
-IsOtherError proxy other out given replace.NotOwed = (¬ IsReplyNext proxy.order)
+-- why this other one is not given
+abbrev pub IsReplaceError : ProxyState → Bytes → Vec ℕ → ReplaceError → Type 0
+IsReplaceError proxy other out replace.NoReply = HasNoFirstReply proxy
+IsReplaceError proxy other out replace.NotOwed = (owes_reply proxy.dialogue ≡ false)
     × ((code : ℕ) × (used : ℕ) × BeginsWith proxy.server.limit proxy.server.bytes code used)
-IsOtherError proxy other out given replace.AnotherReply = (code : ℕ) × (used : ℕ)
-    × IsOwedFirst proxy code used × ¬ IsWholeReply (record { code = code; bytes = other })
-IsOtherError proxy other out given replace.OutOfMemory = (code : ℕ) × (used : ℕ)
-    × IsOwedFirst proxy code used × IsWholeReply (record { code = code; bytes = other })
-    × LacksRoom out (given ++ other)
-
--- and in any state
-abbrev pub IsReplaceError : Proxy → Bytes → Vec ℕ → ReplaceError → Type 0
-IsReplaceError proxy other out replace.OutOfMemory = LacksRoom out (due proxy.order)
-    ⊎ IsOtherError (flushed proxy) other out (due proxy.order) replace.OutOfMemory
-IsReplaceError proxy other out error = IsOtherError (flushed proxy) other out [] error
+IsReplaceError proxy other out replace.AnotherReply = (code : ℕ) × (used : ℕ)
+    × IsOwedFirst proxy code used × ¬ IsReplyOf code other
+IsReplaceError proxy other out replace.OutOfMemory = (code : ℕ) × (used : ℕ)
+    × IsOwedFirst proxy code used × IsReplyOf code other × LacksRoom out other

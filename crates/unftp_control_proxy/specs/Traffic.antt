@@ -1,33 +1,39 @@
 -- What passes a proxy: what came from both sides, in whatever pieces; what became of the client's
--- lines; which replies the client was given; and what each side was sent.
-use Rattle.std.specs.Prelude.{◌≡◌, ◌≤◌, List, [], ◌∷◌, ◌++◌, flat_map, length, map, max}
-use Rattle.std.specs.List.{AllByRecursion, concat}
+-- lines; what was sent and given, in turn; and the bytes of both.
+use Rattle.std.specs.Prelude.{◌≡◌, ◌≤◌, List, [], ◌∷◌, ◌++◌, Option, Some, None, flat_map, map, max, true}
+use Rattle.std.specs.List.{AllByRecursion, concat, filter_map}
 use Rattle.unftp_control_defs.specs.Bytes.{Bytes}
+use Rattle.unftp_control_defs.specs.FtpReply.{FtpReply, encoded}
 use Rattle.unftp_control_defs.specs.Lines.{IsLine}
 use Rattle.unftp_control_defs.specs.Outcome.{outcome}
-use Rattle.unftp_control_proxy.specs.Owed.{Owed, Answer, Reply, after_due, due}
-use Rattle.unftp_control_proxy.specs.Given.{AreAsked, IsFinalReply, IsWholeReply, ReplyBytes, given, still_owed}
-use Rattle.unftp_control_proxy.specs.declared.proxy.Proxy.{Proxy}
-
--- This line is sent to the server for the client's; or the client is given these bytes instead.
-pub data Fate : Type 0 where
-  SentAs : Bytes → Fate
-  AnsweredBy : Bytes → Fate
+use Rattle.unftp_control_client.specs.ForwardingSteps.{AreForwardingSteps, Answered, Forwarded, ForwardingStep, Passed, replies_given}
+use Rattle.unftp_control_client.specs.Steps.{ReplyTo}
+use Rattle.unftp_control_client.specs.declared.dialogue.To.{To}
+use Rattle.unftp_control_proxy.specs.Answers.{as_read, is_answer}
+use Rattle.unftp_control_proxy.specs.ProxyCalls.{AnsweredBy, Fate, IsWholeReply, ProxyState, ReplyBytes, SentAs, server_owes}
 
 pub record DecidedLine : Type 0 where
   pub line : Bytes
   pub fate : Fate
 
--- a reply of the server, and the one that the client was given for it: the same, or another
+-- a reply of the server, what it is to, and the one that the client was given for it: the same, or
+-- another
 pub record PassedReply : Type 0 where
+  pub to : To
   pub came : ReplyBytes
   pub given : ReplyBytes
+
+-- A line is sent to the server; or the client is given a reply of the server, or the proxy's own.
+pub data Step : Type 0 where
+  SendsLine : Bytes → Step
+  GivesReply : PassedReply → Step
+  GivesOwn : FtpReply → Step
 
 pub record Traffic : Type 0 where
   pub from_client : Bytes
   pub from_server : Bytes
   pub lines : List DecidedLine
-  pub replies : List PassedReply
+  pub steps : List Step
   pub to_client : Bytes
   pub to_server : Bytes
 
@@ -36,7 +42,7 @@ nothing_passed = record {
   from_client = [];
   from_server = [];
   lines = [];
-  replies = [];
+  steps = [];
   to_client = [];
   to_server = [];
 }
@@ -47,21 +53,97 @@ joined first later = record {
   from_client = first.from_client ++ later.from_client;
   from_server = first.from_server ++ later.from_server;
   lines = first.lines ++ later.lines;
-  replies = first.replies ++ later.replies;
+  steps = first.steps ++ later.steps;
   to_client = first.to_client ++ later.to_client;
   to_server = first.to_server ++ later.to_server;
 }
 
--- what a line is owed, and the lines that are sent for it
-abbrev pub owed_for : Fate → Owed
-owed_for (SentAs line) = Reply
-owed_for (AnsweredBy bytes) = Answer bytes
+-- ---- of the lines
 
+-- what is sent for a line, and at once
 abbrev pub sent_for : Fate → List Bytes
 sent_for (SentAs line) = line ∷ []
-sent_for (AnsweredBy bytes) = []
+sent_for (AnsweredBy reply) = []
 
--- one piece of either side, one line, one reply, and some answers
+abbrev pub sends_for : Fate → List Step
+sends_for (SentAs line) = SendsLine line ∷ []
+sends_for (AnsweredBy reply) = []
+
+-- and for all of them
+abbrev pub sent_by : List DecidedLine → List Bytes
+sent_by lines = flat_map (λ decided. sent_for decided.fate) lines
+
+abbrev pub client_lines : List DecidedLine → List Bytes
+client_lines lines = map (λ decided. decided.line) lines
+
+abbrev pub fates_of : List DecidedLine → List Fate
+fates_of lines = map (λ decided. decided.fate) lines
+
+-- What is sent for it is one line; a client reads the reply as one, and no other one follows it.
+abbrev pub IsSingle : Fate → Type 0
+IsSingle (SentAs line) = IsLine line
+IsSingle (AnsweredBy reply) = is_answer reply ≡ true
+
+abbrev pub IsDecidedLine : DecidedLine → Type 0
+IsDecidedLine decided = IsLine decided.line × IsSingle decided.fate
+
+-- ---- of what is given
+
+-- the line that a step is of, as it was decided, if it is of one
+abbrev pub fate_by_step : Step → Option Fate
+fate_by_step (SendsLine line) = Some (SentAs line)
+fate_by_step (GivesReply passed) = None
+fate_by_step (GivesOwn reply) = Some (AnsweredBy reply)
+
+abbrev pub fates_in : List Step → List Fate
+fates_in steps = filter_map fate_by_step steps
+
+-- the answer that is not given yet
+abbrev pub held_fate : Option FtpReply → List Fate
+held_fate None = []
+held_fate (Some reply) = AnsweredBy reply ∷ []
+
+-- the server's replies
+abbrev pub passed_by_step : Step → Option PassedReply
+passed_by_step (GivesReply passed) = Some passed
+passed_by_step _ = None
+
+abbrev pub passed_in : List Step → List PassedReply
+passed_in steps = filter_map passed_by_step steps
+
+abbrev pub bytes_that_came : List PassedReply → Bytes
+bytes_that_came replies = flat_map (λ passed. passed.came.bytes) replies
+
+-- what the client is given by a step
+abbrev pub given_by_step : Step → Bytes
+given_by_step (SendsLine line) = []
+given_by_step (GivesReply passed) = passed.given.bytes
+given_by_step (GivesOwn reply) = encoded reply
+
+abbrev pub given_in : List Step → Bytes
+given_in steps = flat_map given_by_step steps
+
+-- both are one reply, of the same code
+abbrev pub IsPassedReply : PassedReply → Type 0
+IsPassedReply passed = IsWholeReply passed.came × IsWholeReply passed.given
+    × (passed.given.code ≡ passed.came.code)
+
+-- As steps of a proxy over its dialogue with the server; and the replies that its client is given,
+-- each with what it is to.
+abbrev pub forwarding_step : Step → ForwardingStep
+forwarding_step (SendsLine line) = Forwarded line
+forwarding_step (GivesReply passed) =
+    Passed (record { to = passed.to; reply = (passed.given.code, passed.given.lines) })
+forwarding_step (GivesOwn reply) = Answered (as_read reply)
+
+abbrev pub forwarding_steps : List Step → List ForwardingStep
+forwarding_steps steps = map forwarding_step steps
+
+abbrev pub client_replies : List Step → List ReplyTo
+client_replies steps = replies_given 0 0 (forwarding_steps steps)
+
+-- ---- one piece of either side, one line, one step
+
 abbrev pub client_piece : Bytes → Traffic
 client_piece piece = record nothing_passed { from_client = piece }
 
@@ -71,71 +153,41 @@ server_piece piece = record nothing_passed { from_server = piece }
 abbrev pub one_line : Bytes → Fate → Traffic
 one_line line fate = record nothing_passed {
   lines = record { line = line; fate = fate } ∷ [];
+  steps = sends_for fate;
   to_server = concat (sent_for fate);
 }
 
-abbrev pub one_reply : ReplyBytes → ReplyBytes → Traffic
-one_reply came given = record nothing_passed {
-  replies = record { came = came; given = given } ∷ [];
-  to_client = given.bytes;
+abbrev pub one_reply : PassedReply → Traffic
+one_reply passed = record nothing_passed {
+  steps = GivesReply passed ∷ [];
+  to_client = passed.given.bytes;
 }
 
-abbrev pub some_answers : Bytes → Traffic
-some_answers bytes = record nothing_passed { to_client = bytes }
-
--- and of all lines
-abbrev pub owed_by : List DecidedLine → List Owed
-owed_by lines = map (λ line. owed_for line.fate) lines
-
-abbrev pub sent_by : List DecidedLine → List Bytes
-sent_by lines = flat_map (λ line. sent_for line.fate) lines
-
-abbrev pub client_lines : List DecidedLine → List Bytes
-client_lines lines = map (λ line. line.line) lines
-
-abbrev pub came_in : List PassedReply → List ReplyBytes
-came_in replies = map (λ reply. reply.came) replies
-
-abbrev pub given_in : List PassedReply → List ReplyBytes
-given_in replies = map (λ reply. reply.given) replies
-
-abbrev pub all_bytes : List ReplyBytes → Bytes
-all_bytes replies = flat_map (λ reply. reply.bytes) replies
-
--- What is sent for it is one line; what it is answered by is one final reply.
-abbrev pub IsSingle : Fate → Type 0
-IsSingle (SentAs line) = IsLine line
-IsSingle (AnsweredBy bytes) = IsFinalReply bytes
-
-abbrev pub IsDecidedLine : DecidedLine → Type 0
-IsDecidedLine decided = IsLine decided.line × IsSingle decided.fate
-
--- both are one reply, of the same code
-abbrev pub IsPassedReply : PassedReply → Type 0
-IsPassedReply passed = IsWholeReply passed.came × IsWholeReply passed.given
-    × (passed.given.code ≡ passed.came.code)
+abbrev pub one_answer : FtpReply → Traffic
+one_answer reply = record nothing_passed {
+  steps = GivesOwn reply ∷ [];
+  to_client = encoded reply;
+}
 
 -- All of this passed between two states of a proxy.
-pub record IsTraffic (before : Proxy) (traffic : Traffic) (later : Proxy) : Type 0 where
+pub record IsTraffic (before : ProxyState) (traffic : Traffic) (later : ProxyState) : Type 0 where
   -- the lines are the first ones of what the client sent, and the replies those of the server
   pub client : before.client.bytes ++ traffic.from_client
       ≡ concat (client_lines traffic.lines) ++ later.client.bytes
   pub lines : AllByRecursion IsDecidedLine traffic.lines
   pub server : before.server.bytes ++ traffic.from_server
-      ≡ all_bytes (came_in traffic.replies) ++ later.server.bytes
-  pub replies : AllByRecursion IsPassedReply traffic.replies
-  -- the server is sent the lines that were decided for it, and nothing else
+      ≡ bytes_that_came (passed_in traffic.steps) ++ later.server.bytes
+  pub replies : AllByRecursion IsPassedReply (passed_in traffic.steps)
+  -- the server is sent the lines that were decided for it, and the client given its replies and the
+  -- proxy's own; nothing else is sent
   pub to_server : traffic.to_server ≡ concat (sent_by traffic.lines)
-  -- the client is given what it is owed, with the answers that are due
-  pub to_client : traffic.to_client ++ due later.order
-      ≡ given (before.order ++ owed_by traffic.lines) (given_in traffic.replies)
-  pub still : after_due later.order
-      ≡ still_owed (before.order ++ owed_by traffic.lines) (given_in traffic.replies)
-  pub asked : AreAsked (before.order ++ owed_by traffic.lines) (given_in traffic.replies)
-  -- what was given is owed no longer, and no more is owed than may be
-  pub gone : List Owed
-  pub order : before.order ++ owed_by traffic.lines ≡ gone ++ later.order
-  pub bounded : length later.order ≤ max (length before.order) before.limits.waiting
+  pub to_client : traffic.to_client ≡ given_in traffic.steps
+  -- each line has its fate in turn, but an answer that is not given yet
+  pub fates : held_fate before.answer ++ fates_of traffic.lines
+      ≡ fates_in traffic.steps ++ held_fate later.answer
+  -- these are steps over the dialogue with the server, which owes no more than it may
+  pub steps : AreForwardingSteps before.dialogue (forwarding_steps traffic.steps) later.dialogue
+  pub bounded : server_owes later.dialogue ≤ max (server_owes before.dialogue) before.limits.waiting
   pub limits : later.limits ≡ before.limits
   pub line_limit : later.client.limit ≡ before.client.limit
 
@@ -144,9 +196,13 @@ pub record IsTraffic (before : Proxy) (traffic : Traffic) (later : Proxy) : Type
 -- what is sent for the line means the same
 abbrev pub KeepsLine : Bytes → Fate → Type 0
 KeepsLine line (SentAs sent) = outcome sent ≡ outcome line
-KeepsLine line (AnsweredBy bytes) = ⊥
+KeepsLine line (AnsweredBy reply) = ⊥
 
--- So is each line sent, and each reply is given as it came.
+-- each reply is given as it came
+abbrev pub AreAsTheyCame : List PassedReply → Type 0
+AreAsTheyCame replies = AllByRecursion (λ passed. passed.given ≡ passed.came) replies
+
+-- So is each line sent, and each reply given.
 pub record ChangesNothing (traffic : Traffic) : Type 0 where
   pub lines : AllByRecursion (λ decided. KeepsLine decided.line decided.fate) traffic.lines
-  pub replies : AllByRecursion (λ passed. passed.given ≡ passed.came) traffic.replies
+  pub replies : AreAsTheyCame (passed_in traffic.steps)

@@ -32,6 +32,9 @@ pub enum SendError {
     /// code has not three digits (RFC 959, section 4.2).
     #[error("not a plain reply")]
     NotPlain,
+    /// As many lines were sent as 64 bits count.
+    #[error("too many commands")]
+    TooManyCommands,
     /// An allocation failed.
     #[error("out of memory")]
     OutOfMemory,

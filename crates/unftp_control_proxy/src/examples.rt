@@ -1,24 +1,27 @@
-//! Examples of the definitions.
+//! Examples of the definitions, at the boundary and next to it.
 #![tactic(auto, unfolding(unftp_control_defs::proofs::Computing::at_bytes))]
 
 ghost use Rattle.std.specs.Global.{Vec};
-ghost use Rattle.std.specs.Prelude.{◌≡◌, ◌∷◌, ◌++◌, ℕ, [], Some, None, codes, false, true};
+ghost use Rattle.std.specs.Prelude.{◌≡◌, ◌∷◌, ◌++◌, ℕ, List, [], Some, None, codes, false, true};
 ghost use Rattle.unftp_control_defs.specs.Bytes.{Bytes};
-ghost use Rattle.unftp_control_defs.specs.FtpReply.{CodeAndMsg, MultiLine, Nothing};
+ghost use Rattle.unftp_control_defs.specs.FtpReply.{CodeAndMsg, MultiLine, Nothing, encoded};
 ghost use Rattle.unftp_control_message.specs.declared.reply.error.parse_error.ParseErrorKind.{ParseErrorKind};
 ghost use Rattle.unftp_control_message.specs.declared.reply.error.parse_error.ParseErrorKind.TheVariants.{InvalidCommand};
 ghost use Rattle.unftp_control_read.specs.ReplyDecoding.{pending_replies};
 ghost use Rattle.unftp_control_write.specs.ClearLines.{is_clear};
+ghost use Rattle.unftp_control_client.specs.Dialogue.{after_line, after_reply, at_start, awaits_tls, owes_reply};
+ghost use Rattle.unftp_control_client.specs.declared.dialogue.To.TheVariants.{Command, Greeting};
+ghost use Rattle.unftp_control_proxy.specs.Answers.{IsFinalReply, is_answer, is_final, long_reply, refused_reply};
 ghost use Rattle.unftp_control_proxy.specs.ClientLines.{after_front_line, front_line, shown_line};
-ghost use Rattle.unftp_control_proxy.specs.Given.{AreAsked, IsFinalReply, given};
-ghost use Rattle.unftp_control_proxy.specs.Owed.{Answer, Reply};
-ghost use Rattle.unftp_control_proxy.specs.ProxyCalls.{GivesNext, GivesOther, IsDecidable, IsForwardingError, IsOtherError, IsUnclearError, IsUnsent, MayBeSent, is_answer, is_final, new_proxy};
-ghost use Rattle.unftp_control_proxy.specs.Traffic.{AnsweredBy, ChangesNothing, SentAs, one_line, one_reply};
+ghost use Rattle.unftp_control_proxy.specs.ProxyCalls.{AnsweredBy, Fate, GivesNext, GivesOther, IsDecidable, IsForwardingError, IsGiven, IsReplaceError, IsUnclearError, IsUnsent, MayBeSent, ProxyState, ReplyBytes, SentAs, decided, is_due, new_proxy, server_owes, stops, waits};
+ghost use Rattle.unftp_control_proxy.specs.Traffic.{ChangesNothing, GivesOwn, GivesReply, SendsLine, client_replies, fates_in, given_in, one_line, one_reply};
+ghost use Rattle.unftp_control_proxy.specs.Filtering.{AsItIs, Becomes, Forward, Instead, Reply, Send, fate_by, long_line, refused_line, step_for, told_of};
+ghost use Rattle.unftp_control_proxy.specs.Relaying.{IsEnd, IsSettled};
 ghost use Rattle.unftp_control_proxy.specs.declared.errors.ReplaceError.TheVariants as ReplaceError;
 ghost use Rattle.unftp_control_proxy.specs.declared.errors.SendError.TheVariants as SendError;
 ghost use Rattle.unftp_control_proxy.specs.declared.proxy.Limits.{Limits as RustLimits};
-ghost use Rattle.unftp_control_proxy.specs.declared.proxy.Proxy.{Proxy as RustProxy};
-ghost use Rattle.unftp_control_proxy.specs.declared.proxy.ServerReply.TheVariants.{Passed, Unasked};
+ghost use Rattle.unftp_control_proxy.specs.declared.proxy.NextReply.TheVariants.{Answered, Passed, Unasked};
+ghost use Rattle.unftp_control_proxy.specs.declared.relay.End.TheVariants as End;
 
 /// Lines that are clear, and others.
 pub fn lines_are_clear()
@@ -35,18 +38,49 @@ pub fn lines_are_clear()
     ensures empty { is_clear (codes "\r\n") ≡ false }
 {}
 
-/// An answer waits for the replies that are owed before it, and a preliminary reply is not final.
+/// When no line is taken: the greeting is owed, as many replies as may be, an answer is held, or
+/// AUTH TLS has no reply.
+pub fn proxies_wait()
+    ensures greeting { server_owes at_start ≡ 1 }
+    ensures full { (proxy : ProxyState) → proxy.limits.waiting ≡ 1 → proxy.dialogue ≡ at_start
+        → waits proxy ≡ true }
+    ensures goes_on { (limits : RustLimits)
+        → waits (new_proxy (record limits { waiting = 2 })) ≡ false }
+    ensures answered { (limits : RustLimits)
+        → waits (record (new_proxy (record limits { waiting = 2 })) {
+          answer = Some refused_reply;
+        }) ≡ true }
+    ensures asks { awaits_tls (after_line (codes "AUTH TLS\r\n") at_start) ≡ true }
+    ensures greeted { awaits_tls (after_reply
+        (after_line (codes "AUTH TLS\r\n") at_start) 220) ≡ true }
+    ensures replied { awaits_tls (after_reply (after_reply
+        (after_line (codes "AUTH TLS\r\n") at_start) 220) 502) ≡ false }
+    ensures asks_nothing { awaits_tls (after_line (codes "NOOP\r\n") at_start) ≡ false }
+{}
+
+/// An answer is due once no reply is owed, the greeting among them; and it is given then.
 pub fn answers_wait()
-    ensures after { given (Reply ∷ Answer (codes "502 No\r\n") ∷ [])
-        (record { code = 150; bytes = codes "150 a\r\n" }
-        ∷ record { code = 226; bytes = codes "226 b\r\n" } ∷ [])
-        ≡ codes "150 a\r\n226 b\r\n502 No\r\n" }
-    ensures preliminary { given (Reply ∷ Answer (codes "502 No\r\n") ∷ [])
-        (record { code = 199; bytes = codes "199 a\r\n" } ∷ []) ≡ codes "199 a\r\n" }
-    ensures ended { given (Reply ∷ Answer (codes "502 No\r\n") ∷ [])
-        (record { code = 200; bytes = codes "200 a\r\n" } ∷ []) ≡ codes "200 a\r\n502 No\r\n" }
-    ensures unasked { ¬ AreAsked (Answer (codes "502 No\r\n") ∷ [])
-        (record { code = 421; bytes = codes "421 a\r\n" } ∷ []) }
+    ensures not_greeted { (limits : RustLimits)
+        → is_due (record (new_proxy limits) { answer = Some refused_reply }) ≡ false }
+    ensures greeted { (limits : RustLimits) → is_due (record (new_proxy limits) {
+      answer = Some refused_reply;
+      dialogue = after_reply at_start 220;
+    }) ≡ true }
+    ensures preliminary { owes_reply (after_reply at_start 120) ≡ true }
+    ensures none { (limits : RustLimits)
+        → is_due (record (new_proxy limits) { dialogue = after_reply at_start 220 }) ≡ false }
+    ensures in_order { client_replies (SendsLine (codes "NOOP\r\n")
+        ∷ GivesReply (record {
+          to = Command 0;
+          came = record { code = 200; lines = codes "a" ∷ []; bytes = codes "200 a\r\n" };
+          given = record { code = 200; lines = codes "a" ∷ []; bytes = codes "200 a\r\n" };
+        }) ∷ GivesOwn (CodeAndMsg 502 (codes "No")) ∷ [])
+        ≡ record { to = Command 0; reply = (200, codes "a" ∷ []) }
+        ∷ record { to = Command 1; reply = (502, codes "No" ∷ []) } ∷ [] }
+    ensures fates { fates_in (SendsLine (codes "NOOP\r\n") ∷ GivesOwn refused_reply ∷ [])
+        ≡ SentAs (codes "NOOP\r\n") ∷ AnsweredBy refused_reply ∷ [] }
+    ensures given { given_in (SendsLine (codes "NOOP\r\n") ∷ GivesOwn refused_reply ∷ [])
+        ≡ codes "500 Not understood\r\n" }
 {}
 
 /// Replies after which another to the same line follows, or none.
@@ -61,6 +95,8 @@ pub fn answers_are_single()
     ensures lines { is_answer (MultiLine 200 (codes "a" ∷ codes "b" ∷ [])) ≡ true }
     ensures two_replies { is_answer (CodeAndMsg 200 (codes "a\r\n200 b")) ≡ false }
     ensures no_code { is_answer (CodeAndMsg 0 (codes "a")) ≡ false }
+    ensures refused { encoded refused_reply ≡ codes "500 Not understood\r\n" }
+    ensures too_long { encoded long_reply ≡ codes "500 Line too long\r\n" }
     ensures single { IsFinalReply (codes "502 No\r\n") }
     ensures preliminary { ¬ IsFinalReply (codes "150 a\r\n") }
     ensures two { ¬ IsFinalReply (codes "200 a\r\n200 b\r\n") }
@@ -79,36 +115,46 @@ pub fn lines_may_be_sent()
 
 /// Why a line is not decided, or a reply not replaced.
 pub fn errors_have_reasons()
-    ensures decidable { (proxy : RustProxy) → IsDecidable proxy
-        → ¬ IsForwardingError proxy (codes "NOOP\r\n") SendError.NoLine }
-    ensures refused { (proxy : RustProxy) → IsDecidable proxy
-        → IsForwardingError proxy (codes "NOOP x\r\n") (SendError.Refused InvalidCommand) }
-    ensures command { (proxy : RustProxy) (kind : ParseErrorKind)
-        → ¬ IsForwardingError proxy (codes "NOOP\r\n") (SendError.Refused kind) }
-    ensures refused_first { (proxy : RustProxy)
-        → ¬ IsForwardingError proxy (codes "NOOP x\r\n") SendError.OutOfMemory }
-    ensures owed { (proxy : RustProxy) (out : Vec ℕ) → proxy.order ≡ Reply ∷ []
-        → ¬ IsOtherError proxy [] out [] ReplaceError.NotOwed }
-    ensures short { (proxy : RustProxy) → proxy.limits.sent ≡ 6
-        → ¬ IsUnclearError proxy (codes "NOOP\r\n") SendError.TooLong }
+    ensures decidable { (proxy : ProxyState) (out : Vec ℕ) → IsDecidable proxy
+        → ¬ IsForwardingError proxy (codes "NOOP\r\n") out SendError.NoLine }
+    ensures refused { (proxy : ProxyState) (out : Vec ℕ) → IsDecidable proxy
+        → IsForwardingError proxy (codes "NOOP x\r\n") out (SendError.Refused InvalidCommand) }
+    ensures command { (proxy : ProxyState) (out : Vec ℕ) (kind : ParseErrorKind)
+        → ¬ IsForwardingError proxy (codes "NOOP\r\n") out (SendError.Refused kind) }
+    ensures refused_first { (proxy : ProxyState) (out : Vec ℕ)
+        → ¬ IsForwardingError proxy (codes "NOOP x\r\n") out SendError.OutOfMemory }
+    ensures owed { (proxy : ProxyState) (out : Vec ℕ) → proxy.dialogue ≡ at_start
+        → ¬ IsReplaceError proxy [] out ReplaceError.NotOwed }
+    ensures short { (proxy : ProxyState) (out : Vec ℕ) → proxy.limits.sent ≡ 6
+        → ¬ IsUnclearError proxy (codes "NOOP\r\n") out SendError.TooLong }
+    ensures full { stops SendError.TooManyCommands ≡ true }
+    ensures not_sent { stops SendError.TooLong ≡ false }
 {}
 
 /// What `next_reply` and `replace_reply` give: a whole reply, or another of its code.
 pub fn replies_are_given()
-    ensures passed { (limits : RustLimits) → let before : RustProxy =
-        record (new_proxy limits) { server = pending_replies None (codes "200 a\r\n2") 8 8 } in
-        GivesNext before (Some (Passed 200)) [] (codes "200 a\r\n")
-        (record before { server = pending_replies None (codes "2") 8 8; order = [] }) }
-    ensures dropped { (before later : RustProxy) → ¬ GivesNext before (Some (Passed 200)) [] [] later }
-    ensures owed { (limits : RustLimits) (out : Bytes) (later : RustProxy)
+    ensures passed { (limits : RustLimits) → let before : ProxyState =
+        record (new_proxy limits) { server = pending_replies None (codes "220 a\r\n2") 8 8 } in
+        GivesNext before (Some (Passed 220)) [] (codes "220 a\r\n") (record before {
+          server = pending_replies None (codes "2") 8 8;
+          dialogue = after_reply at_start 220;
+        }) }
+    ensures dropped { (before later : ProxyState)
+        → ¬ GivesNext before (Some (Passed 200)) [] [] later }
+    ensures owed { (limits : RustLimits) (out : Bytes) (later : ProxyState)
         → ¬ GivesNext (new_proxy limits) (Some (Unasked 421)) [] out later }
-    ensures other { (limits : RustLimits) → let before : RustProxy =
-        record (new_proxy limits) { server = pending_replies None (codes "227 a\r\n") 7 7 } in
-        GivesOther before (codes "227 b\r\n") [] (codes "227 b\r\n")
-        (record before { server = pending_replies None [] 7 7; order = [] }) }
-    ensures other_code { (limits : RustLimits) (later : RustProxy) → let before : RustProxy =
-        record (new_proxy limits) { server = pending_replies None (codes "227 a\r\n") 7 7 } in
-        ¬ GivesOther before (codes "226 b\r\n") [] (codes "226 b\r\n") later }
+    ensures too_early { (limits : RustLimits) (out : Bytes) (later : ProxyState)
+        → ¬ GivesNext (record (new_proxy limits) { answer = Some refused_reply })
+        (Some Answered) [] out later }
+    ensures other { (limits : RustLimits) → let before : ProxyState =
+        record (new_proxy limits) { server = pending_replies None (codes "220 a\r\n") 7 7 } in
+        GivesOther before (codes "220 b\r\n") [] (codes "220 b\r\n") (record before {
+          server = pending_replies None [] 7 7;
+          dialogue = after_reply at_start 220;
+        }) }
+    ensures other_code { (limits : RustLimits) (later : ProxyState) → let before : ProxyState =
+        record (new_proxy limits) { server = pending_replies None (codes "220 a\r\n") 7 7 } in
+        ¬ GivesOther before (codes "120 b\r\n") [] (codes "120 b\r\n") later }
 {}
 
 /// A line that means the same changes nothing, and so does a reply as it came.
@@ -116,12 +162,14 @@ pub fn traffic_changes_nothing()
     ensures same { ChangesNothing (one_line (codes "noop\n") (SentAs (codes "NOOP\r\n"))) }
     ensures another { ¬ ChangesNothing (one_line (codes "NOOP\r\n") (SentAs (codes "PWD\r\n"))) }
     ensures answered { ¬ ChangesNothing
-        (one_line (codes "NOOP\r\n") (AnsweredBy (codes "502 No\r\n"))) }
-    ensures as_it_came { ChangesNothing (one_reply (record { code = 200; bytes = codes "200 a\r\n" })
-        (record { code = 200; bytes = codes "200 a\r\n" })) }
-    ensures replaced { ¬ ChangesNothing
-        (one_reply (record { code = 227; bytes = codes "227 a\r\n" })
-        (record { code = 227; bytes = codes "227 b\r\n" })) }
+        (one_line (codes "NOOP\r\n") (AnsweredBy refused_reply)) }
+    ensures as_it_came { (reply : ReplyBytes) → ChangesNothing
+        (one_reply (record { to = Greeting; came = reply; given = reply })) }
+    ensures replaced { ¬ ChangesNothing (one_reply (record {
+      to = Greeting;
+      came = record { code = 227; lines = codes "a" ∷ []; bytes = codes "227 a\r\n" };
+      given = record { code = 227; lines = codes "b" ∷ []; bytes = codes "227 b\r\n" };
+    })) }
 {}
 
 /// The first line of some bytes, and what is shown of it.
@@ -130,4 +178,53 @@ pub fn lines_are_first()
     ensures rest { after_front_line (codes "NOOP\r\nQU") ≡ codes "QU" }
     ensures shown { shown_line 6 (codes "NOOP\r\n") ≡ codes "NOOP\r\n" }
     ensures too_long { shown_line 5 (codes "NOOP\r\n") ≡ [] }
+{}
+
+/// What is to be done with a line of which something was decided.
+pub fn lines_have_a_step()
+    ensures forwarded { step_for Forward (codes "noop\n") ≡ Send (codes "NOOP\r\n") }
+    ensures no_command { step_for Forward (codes "NOOP x\r\n") ≡ Reply refused_reply }
+    ensures as_it_is { step_for AsItIs (codes "NOOP x\r\n") ≡ Send (codes "NOOP x\r\n") }
+    ensures instead { step_for (Instead (codes "PWD\r\n")) (codes "NOOP\r\n")
+        ≡ Send (codes "PWD\r\n") }
+{}
+
+/// What becomes of it: a line is sent up to the limit, and only where it is clear.
+pub fn steps_have_a_fate()
+    ensures sent { fate_by 6 (Send (codes "NOOP\r\n")) ≡ SentAs (codes "NOOP\r\n") }
+    ensures too_long { fate_by 5 (Send (codes "NOOP\r\n")) ≡ long_line }
+    ensures unclear { fate_by 6 (Send (codes "NO\rP\r\n")) ≡ refused_line }
+    ensures no_line { fate_by 6 (Send (codes "NOOP")) ≡ refused_line }
+    ensures final_reply { fate_by 6 (Reply (CodeAndMsg 200 (codes "OK")))
+        ≡ AnsweredBy (CodeAndMsg 200 (codes "OK")) }
+    ensures preliminary { fate_by 6 (Reply (CodeAndMsg 199 (codes "OK"))) ≡ refused_line }
+    ensures none { fate_by 6 (Reply Nothing) ≡ refused_line }
+    ensures two_replies { fate_by 6 (Reply (CodeAndMsg 200 (codes "a\r\n200 b"))) ≡ refused_line }
+{}
+
+/// What the client is told of a line that is not sent, and what the proxy then has.
+pub fn fates_are_told()
+    ensures too_long { told_of SendError.TooLong ≡ long_line }
+    ensures unclear { told_of SendError.Unclear ≡ refused_line }
+    ensures taken { (proxy : ProxyState) → Becomes (SentAs (codes "NOOP\r\n")) proxy
+        (codes "A\r\n") (codes "A\r\nNOOP\r\n") (decided proxy (SentAs (codes "NOOP\r\n"))) }
+    ensures not_sent { (proxy later : ProxyState)
+        → ¬ Becomes (SentAs (codes "NOOP\r\n")) proxy [] [] later }
+    ensures sent_too { (proxy later : ProxyState)
+        → ¬ Becomes long_line proxy [] (codes "NOOP\r\n") later }
+{}
+
+/// When a client was given all that it can be given, and when a relay ends.
+pub fn relays_settle()
+    ensures owed { (proxy : ProxyState) → proxy.dialogue ≡ at_start
+        → ¬ IsEnd proxy (End.Unasked 421) }
+    ensures not_given { (proxy : ProxyState) → is_due proxy ≡ true → ¬ IsGiven proxy }
+    ensures line_left { (proxy : ProxyState) → waits proxy ≡ false
+        → proxy.client.bytes ≡ codes "NOOP\r\n" → ¬ IsSettled proxy }
+    ensures refused { (proxy : ProxyState) → proxy.dialogue
+        ≡ after_reply (after_line (codes "AUTH TLS\r\n") (after_reply at_start 220)) 502
+        → ¬ IsEnd proxy End.Tls }
+    ensures agreed { (proxy : ProxyState) → proxy.dialogue
+        ≡ after_reply (after_line (codes "AUTH TLS\r\n") (after_reply at_start 220)) 234
+        → IsEnd proxy End.Tls }
 {}

@@ -1,50 +1,63 @@
 //! What holds of all that passes a proxy, each the contract of a function that does nothing.
-ghost use Rattle.std.specs.Prelude.{◌≡◌, ◌≤◌, ◌++◌, ◌∷◌, None, length, max};
-ghost use Rattle.std.specs.List.{AllByRecursion, concat};
+ghost use Rattle.std.specs.Prelude.{◌≡◌, ◌<◌, ◌≤◌, ◌++◌, ℕ, suc, List, None, IfSome, length, max};
+ghost use Rattle.std.specs.List.{AllByRecursion, concat, filter};
 ghost use Rattle.unftp_control_defs.specs.Bytes.{Bytes};
 ghost use Rattle.unftp_control_defs.specs.Events.{events};
 ghost use Rattle.unftp_control_defs.specs.Lines.{lines_of};
 ghost use Rattle.unftp_control_defs.specs.Run.{as_session, text_for};
-ghost use Rattle.unftp_control_proxy.specs.ProxyCalls.{new_proxy};
-ghost use Rattle.unftp_control_proxy.specs.Given.{AreAsked, given};
-ghost use Rattle.unftp_control_proxy.specs.Owed.{Reply, due};
-ghost use Rattle.unftp_control_proxy.specs.Traffic.{IsDecidedLine, IsPassedReply, ChangesNothing, IsTraffic, Traffic, all_bytes, came_in, client_lines, given_in, joined, nothing_passed, owed_by, sent_by};
+ghost use Rattle.unftp_control_client.specs.ForwardingSteps.{IsGreeted};
+ghost use Rattle.unftp_control_client.specs.Dialogue.{commands_owed};
+ghost use Rattle.unftp_control_client.specs.Steps.{AreExchanges, is_final};
+ghost use Rattle.unftp_control_client.specs.declared.dialogue.To.TheVariants.{Greeting};
+ghost use Rattle.unftp_control_proxy.specs.ProxyCalls.{ProxyState, new_proxy, server_owes};
+ghost use Rattle.unftp_control_proxy.specs.Traffic.{ChangesNothing, DecidedLine, IsDecidedLine, IsPassedReply, IsTraffic, Traffic, bytes_that_came, client_lines, client_replies, fates_in, fates_of, given_in, held_fate, joined, nothing_passed, passed_in, sent_by};
+ghost use Rattle.unftp_control_proxy.specs.Filtering.{AreFiltered, filtered};
+ghost use Rattle.unftp_control_proxy.specs.Relaying.{IsSettled, RelayState, Relays, after_written, new_relay};
 ghost use Rattle.unftp_control_proxy.specs.declared.proxy.Limits.{Limits as RustLimits};
-ghost use Rattle.unftp_control_proxy.specs.declared.proxy.Proxy.{Proxy as RustProxy};
 
+use crate::filter::Filter;
 use unftp_control_serve::Handler;
 
 /// Whatever comes from both sides, in whatever pieces, and in whatever order the calls are made:
-/// the client is given one exchange for the greeting and for each of its lines, in order: the
-/// server's preliminary replies and its final one, or the proxy's answer, which a client reads as
-/// one final reply. It is a function of what became of the lines and of the server's replies,
-/// whenever either came, and no reply is given that is not owed (RFC 959, sections 4.2 and 5.4).
+/// the client is given the greeting and one exchange for each of its lines, in order: some
+/// preliminary replies of the server and its final one, or the proxy's own answer (RFC 959, sections
+/// 4.2 and 5.4). No reply is given that is not owed.
 pub fn one_exchange_for_each_line()
-    ensures given { (limits : RustLimits) (traffic : Traffic) (later : RustProxy)
+    ensures exchanges { (limits : RustLimits) (traffic : Traffic) (later : ProxyState)
         → IsTraffic (new_proxy limits) traffic later
-        → traffic.to_client ++ due later.order
-        ≡ given (Reply ∷ owed_by traffic.lines) (given_in traffic.replies) }
-    ensures asked { (limits : RustLimits) (traffic : Traffic) (later : RustProxy)
+        → AreExchanges Greeting (client_replies traffic.steps) }
+    // These are the bytes that it is given, and each line has its answer or the server's replies to
+    // what was sent for it, but an answer that is not given yet.
+    ensures given { (limits : RustLimits) (traffic : Traffic) (later : ProxyState)
+        → IsTraffic (new_proxy limits) traffic later → traffic.to_client ≡ given_in traffic.steps }
+    ensures fates { (limits : RustLimits) (traffic : Traffic) (later : ProxyState)
         → IsTraffic (new_proxy limits) traffic later
-        → AreAsked (Reply ∷ owed_by traffic.lines) (given_in traffic.replies) }
+        → fates_of traffic.lines ≡ fates_in traffic.steps ++ held_fate later.answer }
+    // Where the server owes none and no answer is held, each line has its final reply.
+    ensures complete { (limits : RustLimits) (traffic : Traffic) (later : ProxyState)
+        → IsTraffic (new_proxy limits) traffic later → IsGreeted later.dialogue.answered
+        → commands_owed later.dialogue ≡ 0 → later.answer ≡ None
+        → length (filter is_final (client_replies traffic.steps)) ≡ suc (length traffic.lines) }
     // The lines are the first ones of what the client sent, each sent as one line or answered by
     // one final reply; and the replies, each whole, those of what the server sent; another that is
     // given in place of one has its code.
-    ensures lines { (limits : RustLimits) (traffic : Traffic) (later : RustProxy)
+    ensures lines { (limits : RustLimits) (traffic : Traffic) (later : ProxyState)
         → IsTraffic (new_proxy limits) traffic later → AllByRecursion IsDecidedLine traffic.lines
         × (traffic.from_client ≡ concat (client_lines traffic.lines) ++ later.client.bytes) }
-    ensures replies { (limits : RustLimits) (traffic : Traffic) (later : RustProxy)
-        → IsTraffic (new_proxy limits) traffic later → AllByRecursion IsPassedReply traffic.replies
-        × (traffic.from_server ≡ all_bytes (came_in traffic.replies) ++ later.server.bytes) }
-    ensures bounded { (limits : RustLimits) (traffic : Traffic) (later : RustProxy)
-        → IsTraffic (new_proxy limits) traffic later → length later.order ≤ max 1 limits.waiting }
+    ensures replies { (limits : RustLimits) (traffic : Traffic) (later : ProxyState)
+        → IsTraffic (new_proxy limits) traffic later
+        → AllByRecursion IsPassedReply (passed_in traffic.steps)
+        × (traffic.from_server ≡ bytes_that_came (passed_in traffic.steps) ++ later.server.bytes) }
+    ensures bounded { (limits : RustLimits) (traffic : Traffic) (later : ProxyState)
+        → IsTraffic (new_proxy limits) traffic later
+        → server_owes later.dialogue ≤ max 1 limits.waiting }
 {}
 
 /// The server is sent the lines that were decided for it, and reads these lines and no other one,
 /// whatever they hold: so no byte of a line that was answered, and no second line within one, comes
 /// to it as a command.
 pub fn nothing_else_is_sent()
-    ensures { (before later : RustProxy) (traffic : Traffic) → IsTraffic before traffic later
+    ensures { (before later : ProxyState) (traffic : Traffic) → IsTraffic before traffic later
         → lines_of traffic.to_server ≡ sent_by traffic.lines }
 {}
 
@@ -52,10 +65,10 @@ pub fn nothing_else_is_sent()
 /// changes nothing: the client is given the server's bytes, but for the last ones, which the proxy
 /// still has, and the server has the events of the client's lines.
 pub fn forwarding_all_changes_nothing()
-    ensures given { (limits : RustLimits) (traffic : Traffic) (later : RustProxy)
+    ensures given { (limits : RustLimits) (traffic : Traffic) (later : ProxyState)
         → IsTraffic (new_proxy limits) traffic later → ChangesNothing traffic
         → traffic.to_client ++ later.server.bytes ≡ traffic.from_server }
-    ensures same_events { (before later : RustProxy) (traffic : Traffic)
+    ensures same_events { (before later : ProxyState) (traffic : Traffic)
         → IsTraffic before traffic later → ChangesNothing traffic
         → events None traffic.to_server ≡ events None (concat (client_lines traffic.lines)) }
     ensures in_turn { (first second : Traffic) → ChangesNothing first → ChangesNothing second
@@ -66,7 +79,7 @@ pub fn forwarding_all_changes_nothing()
 /// client is given what that server would write for its lines with no proxy between, but for what
 /// the proxy still has.
 pub fn served_as_without_a_proxy<H: Handler>()
-    ensures { (limits : RustLimits) (traffic : Traffic) (later : RustProxy) (s : H.State)
+    ensures { (limits : RustLimits) (traffic : Traffic) (later : ProxyState) (s : H.State)
         (greeting : Bytes)
         → IsTraffic (new_proxy limits) traffic later → ChangesNothing traffic
         → traffic.from_server ≡ greeting ++ text_for None (as_session H.law) s traffic.to_server
@@ -76,8 +89,68 @@ pub fn served_as_without_a_proxy<H: Handler>()
 
 /// Nothing passes where no call is made, and what passes in one call after the other passes in all.
 pub fn traffic_is_joined()
-    ensures nothing { (proxy : RustProxy) → IsTraffic proxy nothing_passed proxy }
-    ensures joined { (before middle later : RustProxy) (first second : Traffic)
+    ensures nothing { (proxy : ProxyState) → IsTraffic proxy nothing_passed proxy }
+    ensures joined { (before middle later : ProxyState) (first second : Traffic)
         → IsTraffic before first middle → IsTraffic middle second later
         → IsTraffic before (joined first second) later }
+{}
+
+/// Where a filter decides the lines, by `filter_line`: what becomes of them, and so what the server
+/// is sent, follows from the client's lines and the filter's law alone, whenever anything came.
+pub fn filtered_by_its_law<F: Filter>()
+    ensures lines { (limit sent_limit : ℕ) (s s' : F.State) (lines : List DecidedLine)
+        → AreFiltered F.law limit sent_limit s lines s'
+        → lines ≡ filtered F.law limit sent_limit s (client_lines lines) }
+    ensures sent { (limits : RustLimits) (traffic : Traffic) (later : ProxyState) (s s' : F.State)
+        → IsTraffic (new_proxy limits) traffic later
+        → AreFiltered F.law limits.line limits.sent s traffic.lines s'
+        → lines_of traffic.to_server
+        ≡ sent_by (filtered F.law limits.line limits.sent s (client_lines traffic.lines)) }
+    // Lines that it decides one after the other are decided so in all.
+    ensures in_turn { (limit sent_limit : ℕ) (s s' s'' : F.State) (first later : List DecidedLine)
+        → AreFiltered F.law limit sent_limit s first s'
+        → AreFiltered F.law limit sent_limit s' later s''
+        → AreFiltered F.law limit sent_limit s (first ++ later) s'' }
+{}
+
+/// Whatever a relay is given, in whatever pieces, and whenever it is written: what becomes of the
+/// lines, and so what the server was sent and is still to be sent, follows from the client's lines
+/// and the filter's law alone. `Relays` is what each call of a `Relay` ensures.
+pub fn relayed_by_its_law<F: Filter>()
+    ensures sent { (limits : RustLimits) (from_client from_server : Bytes) (s : F.State)
+        (all : RelayState F.State)
+        (relays : Relays F.law from_client from_server (new_relay limits s) all)
+        → lines_of all.to_server ≡ sent_by (filtered F.law limits.line limits.sent s
+        (client_lines relays.traffic.lines)) }
+    // What the client was given and is still to be given are the exchanges of these lines.
+    ensures given { (limits : RustLimits) (from_client from_server : Bytes) (s : F.State)
+        (all : RelayState F.State)
+        (relays : Relays F.law from_client from_server (new_relay limits s) all)
+        → (all.to_client ≡ given_in relays.traffic.steps)
+        × AreExchanges Greeting (client_replies relays.traffic.steps)
+        × (fates_of (filtered F.law limits.line limits.sent s (client_lines relays.traffic.lines))
+        ≡ fates_in relays.traffic.steps ++ held_fate all.proxy.answer) }
+    ensures lines { (limits : RustLimits) (from_client from_server : Bytes) (s : F.State)
+        (all : RelayState F.State)
+        (relays : Relays F.law from_client from_server (new_relay limits s) all)
+        → from_client ≡ concat (client_lines relays.traffic.lines) ++ all.proxy.client.bytes }
+    // Calls one after the other are one,
+    ensures in_turn { (first_of_client more_of_client first_of_server more_of_server : Bytes)
+        (before middle after : RelayState F.State)
+        → Relays F.law first_of_client first_of_server before middle
+        → Relays F.law more_of_client more_of_server middle after
+        → Relays F.law (first_of_client ++ more_of_client) (first_of_server ++ more_of_server)
+        before after }
+    // and what was written before changes nothing: it comes before what is held.
+    ensures written { (from_client from_server to_client to_server : Bytes)
+        (before after : RelayState F.State)
+        → Relays F.law from_client from_server before after
+        → Relays F.law from_client from_server (after_written to_client to_server before)
+        (after_written to_client to_server after) }
+{}
+
+/// Where a relay is settled, less of what the server sent is held than a reply may have.
+pub fn little_is_held()
+    ensures { (proxy : ProxyState) → IsSettled proxy
+        → IfSome proxy.server.limit (λ limit. length proxy.server.bytes < limit) }
 {}

@@ -1,24 +1,23 @@
 //! A client's lines and a server's replies, and what each is sent.
-ghost use Rattle.std.specs.Prelude.{◌≡◌, ◌≢◌, ◌↔◌, ◌⊎◌, ◌≤◌, ◌<◌, ◌+◌, ◌++◌, ◌||◌, [], false, not, true, None, Some, Ok, Err, IfErr, IfOk, IsTrue, OnErr, OnOk, drop, is_some, length, take, vec_capacity, vec_len};
+ghost use Rattle.std.specs.Prelude.{◌≡◌, ◌≢◌, ◌↔◌, ◌≤◌, ◌<◌, ◌+◌, ◌++◌, [], false, nat_le, true, None, Some, Ok, Err, IfErr, IfOk, IsTrue, OnErr, OnOk, drop, is_some, length, take, vec_len};
 ghost use Rattle.unftp_control_defs.specs.Bytes.{Bytes};
-ghost use Rattle.unftp_control_defs.specs.FtpReply.{encoded};
+ghost use Rattle.unftp_control_defs.specs.Forwarded.{forwarded_line};
 ghost use Rattle.unftp_control_defs.specs.Lines.{IsLine, lines_of};
-ghost use Rattle.unftp_control_message.specs.ReplyMeaning.{reply_of};
 ghost use Rattle.unftp_control_read.specs.ReplyDecoding.{FindsFirst, pushed};
 ghost use Rattle.unftp_control_write.specs.Forwarding.{IsForwarded};
-ghost use Rattle.unftp_control_defs.specs.Room.{LacksRoom};
-ghost use Rattle.unftp_control_proxy.specs.ProxyCalls.{GivesDue, GivesNext, GivesOther, IsAnswerError, IsCheckError, IsDecidable, IsForwardingError, IsNextError, IsOtherError, IsPassError, IsReplaceError, IsSendError, IsUnclearError, MayBeSent, WaitsForServer, decided, flushed, is_answer, new_proxy, send_error};
+ghost use Rattle.unftp_control_client.specs.Dialogue.{after_reply, owes_reply};
+ghost use Rattle.unftp_control_proxy.specs.Answers.{IsReplyOf, answer_of, is_answer};
 ghost use Rattle.unftp_control_proxy.specs.ClientLines.{first_client_line, line_in, with_piece, without_line};
-ghost use Rattle.unftp_control_proxy.specs.Given.{IsFinalReply, IsWholeReply};
-ghost use Rattle.unftp_control_proxy.specs.Owed.{Answer, IsReplyNext, Reply as ReplyOwed, after_reply, due};
+ghost use Rattle.unftp_control_proxy.specs.ProxyCalls.{AnsweredBy, BeginsTls, GivesNext, GivesOther, IsAnswerError, IsAppendedError, IsCheckError, IsDecidable, IsForwardingError, IsFull, IsNextError, IsReplaceError, IsSendError, IsUnclearError, MayBeSent, SentAs, decided, is_due, new_proxy, send_error, server_owes, waits};
 
+use crate::answer::Answer;
 use crate::client::{ClientLine, ClientLines};
 use crate::errors::{ReplaceError, SendError};
-use crate::order::Order;
-use crate::sending::{append, check, check_answer};
+use crate::sending::{append, check};
 use std::alloc::{AllocError, Global};
-use unftp_control_codecs::encode_reply;
-use unftp_control_message::reply::Reply;
+use std::marker::Model;
+use std::mem;
+use unftp_control_client::Dialogue;
 use unftp_control_read::{FirstReply, FoundReply, NextReplyError, ReplyDecoder, find_reply};
 use unftp_control_write::{ForwardError, forward, is_line};
 
@@ -32,15 +31,17 @@ pub struct Limits {
     pub sent: usize,
     /// The most bytes of a server's reply, its line ends counted.
     pub reply: usize,
-    /// How many lines may be owed their final reply, the greeting counted. While so many are, no
+    /// How many final replies the server may owe, the greeting counted. While it owes so many, no
     /// further line is taken. At least 1, since else none would ever be.
     pub waiting: usize,
 }
 
-/// What came of the server's bytes.
+/// What the client is given next.
 #[derive(Debug, Clone, Copy, PartialEq, Eq)]
-pub enum ServerReply {
-    /// A reply with this code was given to the client. Where it is 1yz, another reply to the same
+pub enum NextReply {
+    /// The proxy's own answer was given.
+    Answered,
+    /// A reply of the server with this code was given. Where it is 1yz, another reply to the same
     /// line follows.
     Passed(u16),
     /// A reply with this code came that no line is owed, as 421 before a server closes the
@@ -54,32 +55,48 @@ pub enum ServerReply {
 ///
 /// After each piece from either side the caller calls `next_reply` until it returns `None`, then
 /// `next_line` once, and decides the line by `forward`, `send_as_it_is`, `replace` or `answer`; and
-/// so on until no line is taken. A reply that is given makes room for a line, and only `next_reply`
-/// gives an answer.
+/// so on until no line is taken. A reply that is given makes room for a line.
+///
+/// No line is taken after one that the proxy answers itself, until the answer is given; nor after
+/// AUTH TLS, until its reply is (RFC 4217, section 4). After a 234 to that, `tls_agreed` returns
+/// true, and what is pending is no line: the caller takes no further one.
+// An answer that is held is one final reply.
 #[derive(Drop)]
 pub struct Proxy {
     client: ClientLines,
     server: ReplyDecoder,
-    order: Order,
-    alone: bool,
-    next_alone: bool,
+    dialogue: Dialogue,
+    answer: Option<Answer>,
     limits: Limits,
+}
+
+impl Model for Proxy {
+    ghost use Rattle.std.specs.Prelude.{IfSome, true, ◌≡◌};
+    ghost use Rattle.unftp_control_proxy.specs.Answers.{answer_of, is_answer};
+    ghost use Rattle.unftp_control_proxy.specs.ProxyCalls.{ProxyState, proxy_state};
+
+    ghost Value = { ProxyState };
+
+    ghost view = { λ proxy. proxy_state proxy.client proxy.server proxy.dialogue proxy.answer
+        proxy.limits };
+
+    ghost invariant = { λ proxy.
+        IfSome proxy.answer (λ answer. is_answer (answer_of answer) ≡ true) };
 }
 
 impl Proxy {
     /// A proxy that was given nothing. The client is owed the server's greeting first.
-    pub fn new(alloc: Global, limits: Limits) -> Result<Proxy, AllocError>
+    pub fn new(alloc: Global, limits: Limits) -> Proxy
         requires { (1 ≤ limits.line) × (1 ≤ limits.reply) × (1 ≤ limits.waiting) }
-        ensures { IfOk result (λ proxy. proxy ≡ new_proxy limits) }
+        ensures { result ≡ new_proxy limits }
     {
-        Ok(Proxy {
+        Proxy {
             client: ClientLines::new(alloc, limits.line),
             server: ReplyDecoder::with_limit(alloc, limits.reply),
-            order: Order::new(alloc)?,
-            alone: false,
-            next_alone: false,
+            dialogue: Dialogue::new(),
+            answer: None,
             limits,
-        })
+        }
     }
 
     /// A piece of what the client sent. When out of memory, nothing changes; it never is for an
@@ -95,41 +112,41 @@ impl Proxy {
         self.client.push(piece)
     }
 
-    /// A piece of what the server sent. When out of memory, nothing changes; it never is for an
-    /// empty piece.
+    /// A piece of what the server sent. When out of memory, nothing changes; it only is where the
+    /// buffer would hold more bytes than it ever did, and never for an empty piece.
     pub fn from_server(&mut self, piece: &[u8]) -> Result<(), AllocError>
         ensures ok { OnOk result
             (self.new ≡ record self.old { server = pushed self.old.server piece.now }) }
         ensures err { OnErr result (self.new ≡ self.old) }
         ensures some { OnErr result (¬ (piece.now ≡ [])) }
+        ensures memory { OnErr result
+            (self.old.server.held < self.old.server.buffered + length piece.now) }
     {
         self.server.push(piece)
     }
 
-    /// Whether no line is taken now: as many are owed their reply as may be, or a line stands alone
-    /// that is owed one. Nothing should be read from the client then.
+    /// Whether no line is taken now: the server owes as many replies as it may; or an answer is not
+    /// given yet; or AUTH TLS has no reply yet. Nothing should be read from the client then.
     pub fn waits_for_server(&self) -> bool
-        ensures { IsTrue result ↔ WaitsForServer self.now }
+        ensures { result ≡ waits self.now }
     {
-        let owed = self.order.len();
-        owed >= self.limits.waiting || (self.alone && owed > 0)
+        self.owes_all() || self.answer.is_some() || self.dialogue.awaits_tls()
     }
 
-    /// Takes no further line after this one until all that is owed was given: for a line such as
-    /// AUTH, since what follows a 234 is no line (RFC 4217, section 4). It is the line that
-    /// `next_line` found, once that is decided; or the last one that was decided, where none was
-    /// found since. So it is called right before the line is decided, or right after.
-    pub fn stand_alone(&mut self)
-        ensures { self.new ≡ record self.old {
-          alone = not self.old.client.found || self.old.alone;
-          next_alone = self.old.client.found || self.old.next_alone;
-        } }
+    /// Whether the server owes as many replies as it may.
+    fn owes_all(&self) -> bool
+        ensures { result ≡ nat_le self.now.limits.waiting (server_owes self.now.dialogue) }
     {
-        if self.client.is_found() {
-            self.next_alone = true;
-        } else {
-            self.alone = true;
-        }
+        let greeting = u64::from(self.dialogue.answered.is_none());
+        self.dialogue.owed().saturating_add(greeting) >= self.limits.waiting as u64
+    }
+
+    /// How far the dialogue with the server has come: how many replies it owes (`owed`), and
+    /// whether it has agreed to begin TLS (`agreed`).
+    pub fn dialogue(&self) -> Dialogue
+        ensures { result ≡ self.now.dialogue }
+    {
+        self.dialogue
     }
 
     /// What the client's next line is; or `None` where none is complete. `line` then returns its
@@ -158,29 +175,31 @@ impl Proxy {
         self.client.line()
     }
 
-    /// Whether a line was found, and may be decided.
+    /// Whether the line that was found may be decided now.
     fn is_decidable(&self) -> bool
         ensures { IsTrue result ↔ IsDecidable self.now }
     {
         self.client.is_found() && !self.waits_for_server()
     }
 
-    /// Decides the line: appends the line that `forward` of `unftp_control_write` writes for it,
-    /// and the client is owed the server's reply.
+    /// Decides the line: it is forwarded as its command, as `forward` of `unftp_control_write` does.
     ///
-    /// `Refused` where the line is no command; `Unclear` where what would be sent is not clear: its
-    /// verb is empty or has bytes that are no letters and digits of ASCII, or there is a CR, a NUL
-    /// or a 255 (Telnet's, RFC 854) before its end; `TooLong` where it is longer than
-    /// `Limits::sent`. At an error nothing changes.
+    /// `NoLine` where no line may be decided, `NotALine` where it is too long, `Refused` where it
+    /// is no command, and `Unclear` where servers read what would be sent in different ways, as
+    /// with a Telnet byte. `TooLong` where that is longer than what may be sent, `OutOfMemory` where
+    /// `to_server` has no room for it and can't grow, and `TooManyCommands` where 2^64 - 1 lines
+    /// were sent. At an error the line is still to be decided, and nothing is appended.
     pub fn forward(&mut self, to_server: &mut Vec<u8>) -> Result<(), SendError>
-        ensures ok { OnOk result (self.new ≡ decided self.old ReplyOwed) }
+        ensures ok { OnOk result
+            (IsForwarded (line_in self.old.client) to_server.old.items to_server.new.items) }
+        ensures decided { OnOk result (self.new ≡ decided self.old
+            (SentAs (drop (vec_len to_server.old) to_server.new.items))) }
         ensures may { OnOk result (IsDecidable self.old) }
         ensures shown { OnOk result (line_in self.old.client ≢ []) }
-        ensures forwarded { OnOk result
-            (IsForwarded (line_in self.old.client) to_server.old.items to_server.new.items) }
         ensures sent { OnOk result (MayBeSent self.old.limits.sent
-            (drop (length to_server.old.items) to_server.new.items)) }
-        ensures why { IfErr result (IsForwardingError self.old (line_in self.old.client)) }
+            (drop (vec_len to_server.old) to_server.new.items)) }
+        ensures why { IfErr result
+            (IsForwardingError self.old (line_in self.old.client) to_server.old) }
         ensures err { OnErr result (self.new ≡ self.old) }
         ensures out_err { OnErr result (to_server.new.items ≡ to_server.old.items) }
     {
@@ -205,36 +224,36 @@ impl Proxy {
     /// send no reply to that, and each later reply would be given to another line. Else as
     /// `forward`.
     pub fn send_as_it_is(&mut self, to_server: &mut Vec<u8>) -> Result<(), SendError>
-        ensures ok { OnOk result (self.new ≡ decided self.old ReplyOwed) }
+        ensures ok { OnOk result (self.new ≡ decided self.old (SentAs (line_in self.old.client))) }
         ensures may { OnOk result (IsDecidable self.old) }
         ensures appended { OnOk result
             (to_server.new.items ≡ to_server.old.items ++ line_in self.old.client) }
         ensures sent { OnOk result
             (MayBeSent self.old.limits.sent (line_in self.old.client)) }
-        ensures why { IfErr result (IsSendError self.old (line_in self.old.client)) }
+        ensures why { IfErr result (IsSendError self.old (line_in self.old.client) to_server.old) }
         ensures err { OnErr result (self.new ≡ self.old) }
         ensures out_err { OnErr result (to_server.new.items ≡ to_server.old.items) }
     {
         let line = self.client.line();
         self.check(line)?;
         let length = append(line, to_server)?;
-        self.owe_appended(length, to_server)
+        self.note_line(length, to_server)
     }
 
     /// Decides the line: another one is sent in its place, as PORT with another address. Else as
     /// `send_as_it_is`, of that line; `NotALine` where it is not one.
     pub fn replace(&mut self, other: &[u8], to_server: &mut Vec<u8>) -> Result<(), SendError>
-        ensures ok { OnOk result (self.new ≡ decided self.old ReplyOwed) }
+        ensures ok { OnOk result (self.new ≡ decided self.old (SentAs other.now)) }
         ensures may { OnOk result (IsDecidable self.old) }
         ensures appended { OnOk result (to_server.new.items ≡ to_server.old.items ++ other.now) }
         ensures sent { OnOk result (MayBeSent self.old.limits.sent other.now) }
-        ensures why { IfErr result (IsSendError self.old other.now) }
+        ensures why { IfErr result (IsSendError self.old other.now to_server.old) }
         ensures err { OnErr result (self.new ≡ self.old) }
         ensures out_err { OnErr result (to_server.new.items ≡ to_server.old.items) }
     {
         self.check(other)?;
         let length = append(other, to_server)?;
-        self.owe_appended(length, to_server)
+        self.note_line(length, to_server)
     }
 
     /// Decides the line: the line itself is sent, as it came, also where it is not clear. It is for
@@ -243,13 +262,14 @@ impl Proxy {
     ///
     /// Never `Unclear`. Else as `send_as_it_is`.
     pub fn send_unclear(&mut self, to_server: &mut Vec<u8>) -> Result<(), SendError>
-        ensures ok { OnOk result (self.new ≡ decided self.old ReplyOwed) }
+        ensures ok { OnOk result (self.new ≡ decided self.old (SentAs (line_in self.old.client))) }
         ensures may { OnOk result (IsDecidable self.old) }
         ensures appended { OnOk result
             (to_server.new.items ≡ to_server.old.items ++ line_in self.old.client) }
         ensures sent { OnOk result (IsLine (line_in self.old.client)) }
         ensures short { OnOk result (length (line_in self.old.client) ≤ self.old.limits.sent) }
-        ensures why { IfErr result (IsUnclearError self.old (line_in self.old.client)) }
+        ensures why { IfErr result
+            (IsUnclearError self.old (line_in self.old.client) to_server.old) }
         ensures err { OnErr result (self.new ≡ self.old) }
         ensures out_err { OnErr result (to_server.new.items ≡ to_server.old.items) }
     {
@@ -264,19 +284,21 @@ impl Proxy {
             return Err(SendError::TooLong);
         }
         let length = append(line, to_server)?;
-        self.owe_appended(length, to_server)
+        self.note_line(length, to_server)
     }
 
     /// Decides the line: the bytes of `to_server` from `length` on, which the caller appended, are
-    /// what is sent for it. Else as `send_as_it_is`, of these bytes; at an error they are removed.
+    /// what is sent for it. Else as `send_as_it_is`, of these bytes, but never `OutOfMemory`; at an
+    /// error they are removed.
     pub fn send_appended(&mut self, length: usize, to_server: &mut Vec<u8>) -> Result<(), SendError>
         requires { length ≤ vec_len to_server.old }
-        ensures ok { OnOk result (self.new ≡ decided self.old ReplyOwed) }
+        ensures ok { OnOk result
+            (self.new ≡ decided self.old (SentAs (drop length to_server.old.items))) }
         ensures may { OnOk result (IsDecidable self.old) }
         ensures kept { OnOk result (to_server.new.items ≡ to_server.old.items) }
         ensures sent { OnOk result
             (MayBeSent self.old.limits.sent (drop length to_server.old.items)) }
-        ensures why { IfErr result (IsSendError self.old (drop length to_server.old.items)) }
+        ensures why { IfErr result (IsAppendedError self.old (drop length to_server.old.items)) }
         ensures err { OnErr result (self.new ≡ self.old) }
         ensures removed { OnErr result (to_server.new.items ≡ take length to_server.old.items) }
     {
@@ -285,7 +307,7 @@ impl Proxy {
             to_server.truncate(length);
             return Err(error);
         }
-        self.owe_appended(length, to_server)
+        self.note_line(length, to_server)
     }
 
     /// Whether this line may be sent for the one that was found, and if not, why.
@@ -300,137 +322,135 @@ impl Proxy {
         check(self.limits.sent, line)
     }
 
-    /// Decides the line as one for which the bytes from `length` on are sent; or removes these when
-    /// out of memory.
-    fn owe_appended(&mut self, length: usize, to_server: &mut Vec<u8>) -> Result<(), SendError>
+    /// Decides the line as one for which the bytes from `length` on are sent; or removes these
+    /// where as many lines were sent as are counted.
+    fn note_line(&mut self, length: usize, to_server: &mut Vec<u8>) -> Result<(), SendError>
         requires found { IsTrue self.old.client.found }
         requires within { length ≤ vec_len to_server.old }
-        ensures ok { OnOk result (self.new ≡ decided self.old ReplyOwed) }
+        ensures ok { OnOk result
+            (self.new ≡ decided self.old (SentAs (drop length to_server.old.items))) }
         ensures kept { OnOk result (to_server.new.items ≡ to_server.old.items) }
-        ensures why { IfErr result (λ error. error ≡ SendError.OutOfMemory) }
+        ensures why { IfErr result (λ error. (error ≡ SendError.TooManyCommands)
+            × IsFull self.old.dialogue) }
         ensures err { OnErr result (self.new ≡ self.old) }
         ensures removed { OnErr result (to_server.new.items ≡ take length to_server.old.items) }
     {
-        if self.order.owe_reply().is_err() {
+        let (_, line) = to_server.as_slice().split_at(length);
+        if self.dialogue.add_line(line).is_none() {
             to_server.truncate(length);
-            return Err(SendError::OutOfMemory);
+            return Err(SendError::TooManyCommands);
         }
-        self.take_line();
+        self.client.take();
         Ok(())
     }
 
-    /// The line that was found is decided: it stands alone where that was said of it.
-    fn take_line(&mut self)
-        requires { IsTrue self.old.client.found }
-        ensures { self.new ≡ record self.old {
-          client = without_line self.old.client;
-          alone = self.old.next_alone;
-          next_alone = false;
-        } }
-    {
-        self.client.take();
-        self.alone = self.next_alone;
-        self.next_alone = false;
-    }
-
-    /// Decides the line: the client is owed this reply in its place, and nothing is sent for it.
+    /// Decides the line: the client is given this answer in its place, once the server owes no
+    /// reply, and nothing is sent for it. It takes no memory.
     ///
     /// `NotFinal` where another reply to the same line would have to follow, and `NotPlain` where a
     /// client would not read it as one reply. At an error nothing changes.
-    pub fn answer(&mut self, alloc: Global, reply: &Reply) -> Result<(), SendError>
-        ensures ok { OnOk result
-            (self.new ≡ decided self.old (Answer (encoded (reply_of reply.now)))) }
+    pub fn answer(&mut self, answer: Answer) -> Result<(), SendError>
+        ensures ok { OnOk result (self.new ≡ decided self.old (AnsweredBy (answer_of answer))) }
         ensures may { OnOk result (IsDecidable self.old) }
-        ensures answers { OnOk result (is_answer (reply_of reply.now) ≡ true) }
-        ensures single { OnOk result (IsFinalReply (encoded (reply_of reply.now))) }
-        ensures why { IfErr result (IsAnswerError self.old (reply_of reply.now)) }
+        ensures single { OnOk result (is_answer (answer_of answer) ≡ true) }
+        ensures why { IfErr result (IsAnswerError self.old (answer_of answer)) }
         ensures err { OnErr result (self.new ≡ self.old) }
     {
         if !self.is_decidable() {
             return Err(SendError::NoLine);
         }
-        check_answer(reply)?;
-        let mut answer = Vec::new(alloc);
-        if encode_reply(reply, &mut answer).is_err() || self.order.owe_answer(answer).is_err() {
-            return Err(SendError::OutOfMemory);
-        }
-        self.take_line();
+        answer.check()?;
+        self.hold(answer);
+        self.client.take();
         Ok(())
     }
 
-    /// Appends what the client is given next: the answers before which no reply is owed, and then
-    /// the server's next reply, as it came (RFC 959, section 4.2). `None` where none is complete.
+    /// Holds the answer until it is given.
+    fn hold(&mut self, answer: Answer)
+        requires { is_answer (answer_of answer) ≡ true }
+        ensures { self.new ≡ record self.old { answer = Some (answer_of answer) } }
+    {
+        let before = mem::replace(&mut self.answer, Some(answer));
+        drop(before);
+    }
+
+    /// Appends what the client is given next: the proxy's own answer, once the server owes no
+    /// reply; or the server's next reply, as it came (RFC 959, section 4.2). `None` where none is
+    /// complete.
     ///
     /// `Malformed` and `TooLong` are returned from then on. `OutOfMemory` comes only where
-    /// `to_client` has no room for the answers, or for them and a reply that is owed: the next call
-    /// goes on. Each answer and reply is given once, and whole.
+    /// `to_client` has no room for the answer that is due, or for a reply that is owed: the next
+    /// call finds it again. Each is given once, and whole. At an error nothing changes.
     pub fn next_reply(
         &mut self,
         to_client: &mut Vec<u8>,
-    ) -> Result<Option<ServerReply>, NextReplyError>
-        ensures ok { IfOk result (λ next. (middle : Bytes)
-            × GivesDue self.old to_client.old.items middle (flushed self.old)
-            × GivesNext (flushed self.old) next middle to_client.new.items self.new) }
-        ensures none { result ≡ Ok None
-            → FindsFirst self.old.server.limit self.old.server.bytes (Ok None) }
-        ensures err { OnErr result
-            (GivesDue self.old to_client.old.items to_client.new.items self.new) }
+    ) -> Result<Option<NextReply>, NextReplyError>
+        ensures ok { IfOk result (λ next.
+            GivesNext self.old next to_client.old.items to_client.new.items self.new) }
+        ensures err { OnErr result (self.new ≡ self.old) }
+        ensures out_err { OnErr result (to_client.new.items ≡ to_client.old.items) }
         ensures why { IfErr result (IsNextError self.old to_client.old) }
     {
-        self.flush(to_client)?;
+        if !self.dialogue.owes_reply() && self.answer.is_some() {
+            return self.give_answer(to_client);
+        }
         self.pass_reply(to_client)
     }
 
-    /// Appends the answers that are due, or the first of them when out of memory.
-    fn flush(&mut self, to_client: &mut Vec<u8>) -> Result<(), NextReplyError>
-        ensures gives { GivesDue self.old to_client.old.items to_client.new.items self.new }
-        ensures ok { OnOk result (self.new ≡ flushed self.old) }
-        ensures err { IfErr result (λ error. (error ≡ NextReplyError.OutOfMemory)
-            × LacksRoom to_client.old (due self.old.order)) }
-        ensures capacity { vec_capacity to_client.old ≤ vec_capacity to_client.new }
-    {
-        match self.order.release(to_client) {
-            Ok(()) => Ok(()),
-            Err(_) => Err(NextReplyError::OutOfMemory),
-        }
-    }
-
-    /// Appends the server's next reply, where it is owed and no answer is due.
-    fn pass_reply(&mut self, to_client: &mut Vec<u8>) -> Result<Option<ServerReply>, NextReplyError>
+    /// Appends the answer that is due.
+    fn give_answer(&mut self, to_client: &mut Vec<u8>) -> Result<Option<NextReply>, NextReplyError>
+        requires { is_due self.old ≡ true }
         ensures ok { IfOk result (λ next.
             GivesNext self.old next to_client.old.items to_client.new.items self.new) }
-        ensures none { result ≡ Ok None
-            → FindsFirst self.old.server.limit self.old.server.bytes (Ok None) }
         ensures err { OnErr result (self.new ≡ self.old) }
         ensures out_err { OnErr result (to_client.new.items ≡ to_client.old.items) }
-        ensures why { IfErr result (IsPassError self.old to_client.old []) }
+        ensures why { IfErr result (IsNextError self.old to_client.old) }
+    {
+        let Some(answer) = &self.answer else {
+            return Ok(None);
+        };
+        if answer.append_to(to_client).is_err() {
+            return Err(NextReplyError::OutOfMemory);
+        }
+        let given = mem::replace(&mut self.answer, None);
+        drop(given);
+        Ok(Some(NextReply::Answered))
+    }
+
+    /// Appends the server's next reply, where it is owed.
+    fn pass_reply(&mut self, to_client: &mut Vec<u8>) -> Result<Option<NextReply>, NextReplyError>
+        requires { is_due self.old ≡ false }
+        ensures ok { IfOk result (λ next.
+            GivesNext self.old next to_client.old.items to_client.new.items self.new) }
+        ensures err { OnErr result (self.new ≡ self.old) }
+        ensures out_err { OnErr result (to_client.new.items ≡ to_client.old.items) }
+        ensures why { IfErr result (IsNextError self.old to_client.old) }
     {
         let Some(first) = self.server.find_first()? else {
             return Ok(None);
         };
-        if !self.order.is_reply_next() {
-            return Ok(Some(ServerReply::Unasked(first.code)));
+        if !self.dialogue.owes_reply() {
+            return Ok(Some(NextReply::Unasked(first.code)));
         }
         let (reply, _) = self.server.pending().split_at(first.length);
         if to_client.extend_from_slice(reply).is_err() {
             return Err(NextReplyError::OutOfMemory);
         }
         self.settle(first);
-        Ok(Some(ServerReply::Passed(first.code)))
+        Ok(Some(NextReply::Passed(first.code)))
     }
 
     /// The server's first reply was given, or another one in its place: it is owed no longer, and
     /// its bytes are removed.
     fn settle(&mut self, first: FirstReply)
-        requires owed { IsReplyNext self.old.order }
-        requires within { first.length ≤ length self.old.server.bytes }
+        requires { first.length ≤ length self.old.server.bytes }
         ensures { self.new ≡ record self.old {
           server = record self.old.server { bytes = drop first.length self.old.server.bytes };
-          order = after_reply first.code self.old.order;
+          dialogue = after_reply self.old.dialogue first.code;
         } }
     {
         self.server.consume(first.length);
-        self.order.replied(first.code);
+        self.dialogue.add_code(u32::from(first.code));
     }
 
     /// The first reply of what the server sent, which `server_pending` begins with; or `None` where
@@ -446,40 +466,26 @@ impl Proxy {
     /// whole reply of the same code, as a 227 with another address. It is for a reply that
     /// `first_reply` found.
     ///
-    /// At an error the server's reply stays. `OutOfMemory` comes as with `next_reply`, of these
-    /// bytes.
+    /// `NoReply` where none is complete, `NotOwed` where it is owed to no line, `AnotherReply` where
+    /// these bytes are not one reply of its code, and `OutOfMemory` where `to_client` has no room
+    /// for them. At an error nothing changes.
     pub fn replace_reply(
         &mut self,
         other: &[u8],
         to_client: &mut Vec<u8>,
     ) -> Result<(), ReplaceError>
-        ensures ok { OnOk result ((middle : Bytes)
-            × GivesDue self.old to_client.old.items middle (flushed self.old)
-            × GivesOther (flushed self.old) other.now middle to_client.new.items self.new) }
-        ensures err { OnErr result
-            (GivesDue self.old to_client.old.items to_client.new.items self.new) }
-        ensures why { IfErr result (IsReplaceError self.old other.now to_client.old) }
-    {
-        match self.flush(to_client) {
-            Ok(()) => self.pass_other(other, to_client),
-            Err(_) => Err(ReplaceError::OutOfMemory),
-        }
-    }
-
-    /// Appends the other reply in place of the server's next one.
-    fn pass_other(&mut self, other: &[u8], to_client: &mut Vec<u8>) -> Result<(), ReplaceError>
         ensures ok { OnOk result (GivesOther self.old other.now to_client.old.items
             to_client.new.items self.new) }
         ensures err { OnErr result (self.new ≡ self.old) }
         ensures out_err { OnErr result (to_client.new.items ≡ to_client.old.items) }
-        ensures why { IfErr result (IsOtherError self.old other.now to_client.old []) }
+        ensures why { IfErr result (IsReplaceError self.old other.now to_client.old) }
     {
         let first = match self.server.find_first() {
             Ok(Some(first)) => first,
             Ok(None) => return Err(ReplaceError::NoReply),
             Err(_) => return Err(ReplaceError::NoReply),
         };
-        if !self.order.is_reply_next() {
+        if !self.dialogue.owes_reply() {
             return Err(ReplaceError::NotOwed);
         }
         if !is_reply_of(first.code, other) {
@@ -508,11 +514,12 @@ impl Proxy {
         self.client.pending()
     }
 
-    /// How much the client is owed: lines, and the greeting.
-    pub fn owed(&self) -> usize
-        ensures { result ≡ length self.now.order }
+    /// Whether the server has agreed to begin TLS, and owes no reply: what is pending of both sides
+    /// then, and what comes, is no line and no reply (RFC 4217, section 4).
+    pub fn tls_agreed(&self) -> bool
+        ensures { IsTrue result ↔ BeginsTls self.now }
     {
-        self.order.len()
+        self.dialogue.agreed && self.dialogue.owed() == 0
     }
 }
 
@@ -529,7 +536,7 @@ fn send_error(error: ForwardError) -> SendError
 
 /// Whether the bytes are one whole reply of this code.
 fn is_reply_of(code: u16, bytes: &[u8]) -> bool
-    ensures { IsTrue result ↔ IsWholeReply (record { code = code; bytes = bytes.now }) }
+    ensures { IsTrue result ↔ IsReplyOf code bytes.now }
 {
     match find_reply(bytes) {
         FoundReply::Whole { code: found, used } => found == code && used == bytes.len(),

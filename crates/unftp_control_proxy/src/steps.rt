@@ -1,38 +1,36 @@
 //! What passes a proxy in each of its calls.
-ghost use Rattle.std.specs.Prelude.{◌≡◌, ◌≢◌, ◌++◌, ℕ, Bool, [], Ok, true};
+ghost use Rattle.std.specs.Prelude.{◌≡◌, ◌≢◌, ◌++◌, ℕ, Bool, [], Ok, drop, length, true};
 ghost use Rattle.unftp_control_defs.specs.Bytes.{Bytes};
 ghost use Rattle.unftp_control_defs.specs.Forwarded.{forwarded_line};
 ghost use Rattle.unftp_control_defs.specs.FtpCommand.{FtpCommand};
+ghost use Rattle.unftp_control_defs.specs.FtpReply.{FtpReply};
 ghost use Rattle.unftp_control_defs.specs.Lines.{IsLine};
 ghost use Rattle.unftp_control_defs.specs.Outcome.{outcome};
 ghost use Rattle.unftp_control_read.specs.ReplyDecoding.{pushed};
 ghost use Rattle.unftp_control_write.specs.Forwarding.{IsForwarded};
-ghost use Rattle.unftp_control_proxy.specs.ProxyCalls.{GivesDue, IsDecidable, PassesReply, decided};
+ghost use Rattle.unftp_control_client.specs.Dialogue.{next_to};
+ghost use Rattle.unftp_control_proxy.specs.Answers.{is_answer};
 ghost use Rattle.unftp_control_proxy.specs.ClientLines.{front_line, line_in, with_piece};
-ghost use Rattle.unftp_control_proxy.specs.Given.{IsFinalReply, ReplyBytes};
-ghost use Rattle.unftp_control_proxy.specs.Owed.{Answer, Reply};
-ghost use Rattle.unftp_control_proxy.specs.Traffic.{AnsweredBy, IsTraffic, SentAs, client_piece, nothing_passed, one_line, one_reply, server_piece, some_answers};
-ghost use Rattle.unftp_control_proxy.specs.declared.proxy.Proxy.{Proxy as RustProxy};
+ghost use Rattle.unftp_control_proxy.specs.ProxyCalls.{AnsweredBy, GivesAnswer, IsDecidable, PassesReply, ProxyState, ReplyBytes, SentAs, decided};
+ghost use Rattle.unftp_control_proxy.specs.Traffic.{IsTraffic, client_piece, nothing_passed, one_answer, one_line, one_reply, server_piece};
 
 /// What the contract of each call ensures says what passes in it; so with `traffic_is_joined` the
 /// laws of traffic are laws of all calls, in whatever order they are made.
 pub fn calls_are_traffic()
-    ensures from_client { (before later : RustProxy) (piece : Bytes) (held : ℕ)
+    ensures from_client { (before later : ProxyState) (piece : Bytes) (held : ℕ)
         → later ≡ record before { client = with_piece before.client piece held }
         → IsTraffic before (client_piece piece) later }
-    ensures from_server { (before later : RustProxy) (piece : Bytes)
+    ensures from_server { (before later : ProxyState) (piece : Bytes)
         → later ≡ record before { server = pushed before.server piece }
         → IsTraffic before (server_piece piece) later }
-    ensures next_line { (before later : RustProxy) (found : Bool) (held : ℕ)
+    ensures next_line { (before later : ProxyState) (found : Bool) (held : ℕ)
         → later ≡ record before { client = record before.client { found = found; held = held } }
         → IsTraffic before nothing_passed later }
-    ensures stand_alone { (before later : RustProxy) (alone next_alone : Bool)
-        → later ≡ record before { alone = alone; next_alone = next_alone }
-        → IsTraffic before nothing_passed later }
     // What is forwarded means what the client's line means.
-    ensures forward { (before later : RustProxy) (sent sent_later : Bytes)
+    ensures forward { (before later : ProxyState) (sent sent_later : Bytes)
         → IsDecidable before → line_in before.client ≢ []
-        → IsForwarded (line_in before.client) sent sent_later → later ≡ decided before Reply
+        → IsForwarded (line_in before.client) sent sent_later
+        → later ≡ decided before (SentAs (drop (length sent) sent_later))
         → (command : FtpCommand) × (outcome (front_line before.client.bytes) ≡ Ok command)
         × (sent_later ≡ sent ++ forwarded_line (front_line before.client.bytes) command)
         × (outcome (forwarded_line (front_line before.client.bytes) command)
@@ -40,18 +38,19 @@ pub fn calls_are_traffic()
         × IsTraffic before (one_line (front_line before.client.bytes)
         (SentAs (forwarded_line (front_line before.client.bytes) command))) later }
     // A line that is sent as it is, or in place of the client's.
-    ensures send { (before later : RustProxy) (sent : Bytes) → IsDecidable before → IsLine sent
-        → later ≡ decided before Reply
+    ensures send { (before later : ProxyState) (sent : Bytes) → IsDecidable before → IsLine sent
+        → later ≡ decided before (SentAs sent)
         → IsTraffic before (one_line (front_line before.client.bytes) (SentAs sent)) later }
-    ensures as_it_is { (proxy : RustProxy) → IsDecidable proxy → IsLine (line_in proxy.client)
+    ensures as_it_is { (proxy : ProxyState) → IsDecidable proxy → IsLine (line_in proxy.client)
         → line_in proxy.client ≡ front_line proxy.client.bytes }
-    ensures answer { (before later : RustProxy) (bytes : Bytes) → IsDecidable before
-        → IsFinalReply bytes → later ≡ decided before (Answer bytes)
-        → IsTraffic before (one_line (front_line before.client.bytes) (AnsweredBy bytes)) later }
-    // The answers before a reply, and the reply, or another one in its place.
-    ensures answers { (before later : RustProxy) (out out_later : Bytes)
-        (gives : GivesDue before out out_later later)
-        → IsTraffic before (some_answers gives.given) later }
-    ensures reply { (before later : RustProxy) (came given : ReplyBytes)
-        → PassesReply before came given later → IsTraffic before (one_reply came given) later }
+    ensures answer { (before later : ProxyState) (reply : FtpReply) → IsDecidable before
+        → is_answer reply ≡ true → later ≡ decided before (AnsweredBy reply)
+        → IsTraffic before (one_line (front_line before.client.bytes) (AnsweredBy reply)) later }
+    // The proxy's own answer, and a reply of the server, or another one in its place.
+    ensures answered { (before later : ProxyState) (reply : FtpReply)
+        → GivesAnswer before reply later → IsTraffic before (one_answer reply) later }
+    ensures reply { (before later : ProxyState) (came given : ReplyBytes)
+        → PassesReply before came given later
+        → IsTraffic before (one_reply
+        (record { to = next_to before.dialogue; came = came; given = given })) later }
 {}

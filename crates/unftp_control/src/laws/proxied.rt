@@ -6,10 +6,9 @@ ghost use Rattle.unftp_control_defs.specs.FtpReply.{FtpReply};
 ghost use Rattle.unftp_control_defs.specs.ReplyReader.{HasFront};
 ghost use Rattle.unftp_control_defs.specs.Run.{all_said};
 ghost use Rattle.unftp_control_defs.specs.TakingSteps.{AreTakingSteps, TakesReply, TakingStep, all_pushed, all_taken};
-ghost use Rattle.unftp_control_proxy.specs.ProxyCalls.{new_proxy};
+ghost use Rattle.unftp_control_proxy.specs.ProxyCalls.{ProxyState, new_proxy};
 ghost use Rattle.unftp_control_proxy.specs.Traffic.{ChangesNothing, IsTraffic, Traffic, client_lines};
 ghost use Rattle.unftp_control_proxy.specs.declared.proxy.Limits.{Limits as RustLimits};
-ghost use Rattle.unftp_control_proxy.specs.declared.proxy.Proxy.{Proxy as RustProxy};
 ghost use Rattle.unftp_control_serve.specs.Writing.{Begins};
 ghost use Rattle.unftp_control.specs.Acts.{IsUnderstood, Server, turns_to, written_by};
 ghost use Rattle.unftp_control.specs.Conversation.{Show, ShowTurns};
@@ -23,7 +22,7 @@ use unftp_control_serve::Session;
 /// proxy took of the server's bytes may be a beginning of them, so it holds at each time.
 pub fn conversation_through_a_proxy<H: Session>()
     ensures so_far { (said : List H.Said) (state : H.State) (greeting : FtpReply)
-        (limits : RustLimits) (traffic : Traffic) (later : RustProxy)
+        (limits : RustLimits) (traffic : Traffic) (later : ProxyState)
         (steps : List (TakingStep (ℕ × List Bytes))) (pending more : Bytes)
         → let server : Server H.State =
         record { law = H.law said; state = state; limit = None; greeting = greeting } in
@@ -36,7 +35,7 @@ pub fn conversation_through_a_proxy<H: Session>()
         (all_said (turns_to server (concat (client_lines traffic.lines)))) }
     // Once all came, they are all, each line has its own, and no byte is pending.
     ensures all { (said : List H.Said) (state : H.State) (greeting : FtpReply)
-        (limits : RustLimits) (traffic : Traffic) (later : RustProxy)
+        (limits : RustLimits) (traffic : Traffic) (later : ProxyState)
         (steps : List (TakingStep (ℕ × List Bytes))) (pending : Bytes)
         → let server : Server H.State =
         record { law = H.law said; state = state; limit = None; greeting = greeting } in

@@ -1,8 +1,8 @@
 use Rattle.std.proofs.Common.{◌≡◌, Ok, ap, arith, codes, get_or, refl, sym, ◌∙◌}
 use Rattle.unftp_control_defs.specs.FtpCommand.{Noop, Pwd}
 use Rattle.unftp_control_defs.specs.Outcome.{outcome}
-use Rattle.unftp_control_proxy.specs.Given.{ReplyBytes}
 use Rattle.unftp_control_defs.proofs.Computing.{at_bytes}
+use Rattle.unftp_control_proxy.specs.ProxyCalls.{ReplyBytes}
 use Rattle.unftp_control_proxy.proofs.examples.traffic_changes_nothing.Goals as goal
 
 pub returns : goal.returns
@@ -14,7 +14,7 @@ returns c = record {
       let pwd : outcome (codes "PWD\r\n") ≡ Ok Pwd = refl in
       let e = sym pwd ∙ same.lines.0 ∙ noop in absurd (cc);
   answered = λ same. absurd same.lines.0;
-  as_it_came = record { lines = tt; replies = (refl, tt) };
+  as_it_came = λ reply. record { lines = tt; replies = (refl, tt) };
   replaced = λ same.
       let e : 98 ≡ 97 = ap (λ (reply : ReplyBytes). get_or reply.bytes 4 0) same.replies.0 in
       absurd (omega arith);

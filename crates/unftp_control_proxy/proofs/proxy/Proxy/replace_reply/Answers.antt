@@ -1,7 +1,56 @@
-use Rattle.unftp_control_proxy.proofs.ReplaceLemmas.{replace_errors}
+use Rattle.std.proofs.Common.{Err, false, inr, refl, rules, take, true, ◌≡◌}
+use Rattle.unftp_control_read.specs.ReplyDecoding.{BeginsWith}
+use Rattle.unftp_control_client.specs.Dialogue.{owes_reply}
+use Rattle.unftp_control_proxy.specs.Answers.{IsReplyOf}
 use Rattle.unftp_control_proxy.proofs.proxy.Proxy.replace_reply.Goals as goal
 
-pub returns-in-Ok-clause-why : goal.returns-in-Ok-clause-why
-returns-in-Ok-clause-why c = replace_errors c.args.self.now c.flush.new.self
-    c.args.to_client.now c.flush.new.to_client c.flush.ensures.gives c.flush.ensures.capacity
-    c.in-Ok.ensures.ok c.args.other.now c.pass_other.result c.pass_other.ensures.why
+pub returns-then-not-owes_reply-clause-why : goal.returns-then-not-owes_reply-clause-why
+returns-then-not-owes_reply-clause-why c =
+    (search rules, (c.in-Ok-Some.first.code, c.in-Ok-Some.first.length, search rules))
+
+pub returns-then-not-is_reply_of-clause-why : goal.returns-then-not-is_reply_of-clause-why
+returns-then-not-is_reply_of-clause-why c = (
+  c.in-Ok-Some.first.code,
+  c.in-Ok-Some.first.length,
+  (search rules, search rules),
+  search rules,
+)
+
+pub returns-then-is_err-clause-why : goal.returns-then-is_err-clause-why
+returns-then-is_err-clause-why c = (
+  c.in-Ok-Some.first.code,
+  c.in-Ok-Some.first.length,
+  (search rules, search rules),
+  search rules,
+  search rules,
+)
+
+pub returns-clause-ok : goal.returns-clause-ok
+returns-clause-ok c =
+    let first = c.in-Ok-Some.first in
+    let server = c.args.self.now.server in
+    let begins : BeginsWith server.limit server.bytes first.code first.length = search rules in
+    let whole : IsReplyOf first.code c.args.other.now = search rules in
+    record {
+      came = record {
+        code = first.code;
+        lines = begins.lines;
+        bytes = take first.length server.bytes;
+      };
+      given = record { code = first.code; lines = whole.0; bytes = c.args.other.now };
+      bytes = refl;
+      appended = search rules;
+      passes = record {
+        owed = search rules;
+        takes = record {
+          used = first.length;
+          front = begins.front;
+          within = begins.within;
+          bytes_are = refl;
+          later_is = search rules;
+        };
+        whole = whole.1;
+        same_code = refl;
+        later_is = search rules;
+      };
+    }

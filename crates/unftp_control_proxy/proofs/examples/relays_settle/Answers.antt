@@ -1,0 +1,24 @@
+use Rattle.std.proofs.Common.{ap, false, refl, sym, true, ◌≡◌, ◌∙◌}
+use Rattle.std.proofs.lemmas.Bool.{false≢true}
+use Rattle.std.proofs.lemmas.Option.{none-some}
+use Rattle.unftp_control_defs.specs.Lines.{lines_of}
+use Rattle.unftp_control_client.specs.Dialogue.{commands_owed, owes_reply}
+use Rattle.unftp_control_client.specs.declared.dialogue.Dialogue.{Dialogue}
+use Rattle.unftp_control_proxy.specs.ClientLines.{first_client_line}
+use Rattle.unftp_control_proxy.proofs.examples.relays_settle.Goals as goal
+
+pub returns : goal.returns
+returns c = record {
+  owed = λ proxy start end. absurd (false≢true (sym end.none_owed ∙ ap owes_reply start));
+  not_given = λ proxy due given. absurd (false≢true (sym given.none_due ∙ due));
+  line_left = λ proxy goes_on bytes settled.
+      let none = settled.no_line goes_on in
+      let first = ap (λ bytes. first_client_line proxy.client.limit (lines_of bytes)) bytes in
+      none-some _ (sym none ∙ first);
+  refused = λ proxy is end.
+      absurd (false≢true (sym (ap (λ (d : Dialogue). d.agreed) is) ∙ end.agreed));
+  agreed = λ proxy is. record {
+    agreed = ap (λ (d : Dialogue). d.agreed) is;
+    none_owed = ap commands_owed is;
+  };
+}

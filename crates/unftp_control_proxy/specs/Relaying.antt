@@ -1,0 +1,84 @@
+-- What a relay does: it takes pieces from both sides, lets its filter decide each line, gives each
+-- reply as it came, and holds what each side is to be sent until that is written.
+use Rattle.std.specs.Prelude.{◌≡◌, ◌⊎◌, ℕ, false, [], ◌++◌, None, Err}
+use Rattle.unftp_control_defs.specs.Bytes.{Bytes}
+use Rattle.unftp_control_defs.specs.Lines.{lines_of}
+use Rattle.unftp_control_read.specs.ReplyDecoding.{FindsFirst}
+use Rattle.unftp_control_read.specs.declared.errors.NextReplyError.TheVariants as next
+use Rattle.unftp_control_proxy.specs.ClientLines.{first_client_line}
+use Rattle.unftp_control_proxy.specs.Filtering.{AreFiltered, FilterLaw}
+use Rattle.unftp_control_proxy.specs.ProxyCalls.{BeginsTls, IsGiven, IsUnasked, ProxyState, new_proxy, waits}
+use Rattle.unftp_control_proxy.specs.Traffic.{AreAsTheyCame, IsTraffic, Traffic, passed_in}
+use Rattle.unftp_control_proxy.specs.declared.proxy.Limits.{Limits}
+use Rattle.unftp_control_proxy.specs.declared.relay.End.{End}
+use Rattle.unftp_control_proxy.specs.declared.relay.End.TheVariants as end
+use Rattle.unftp_control_proxy.specs.declared.relay.Relay.{Relay}
+
+-- What contracts see of a relay: its proxy, the state of its filter, and what each side is to be
+-- sent.
+pub record RelayState (S : Type 0) : Type 0 where
+  pub proxy : ProxyState
+  pub filter : S
+  pub to_client : Bytes
+  pub to_server : Bytes
+
+abbrev pub relay_state_of : {F S : Type 0} → (F → S) → Relay F → RelayState S
+relay_state_of state relay = record {
+  proxy = relay.proxy;
+  filter = state relay.filter;
+  to_client = relay.to_client.items;
+  to_server = relay.to_server.items;
+}
+
+abbrev pub new_relay : {S : Type 0} → Limits → S → RelayState S
+new_relay limits s = record {
+  proxy = new_proxy limits;
+  filter = s;
+  to_client = [];
+  to_server = [];
+}
+
+-- The state with what was written before what is held: so it is of all that each side is sent.
+abbrev pub after_written : {S : Type 0} → Bytes → Bytes → RelayState S → RelayState S
+after_written to_client to_server state = record state {
+  to_client = to_client ++ state.to_client;
+  to_server = to_server ++ state.to_server;
+}
+
+-- These pieces came: the lines that were taken then were decided by the law, each reply was given
+-- as it came, and what that makes for each side was appended to what it is to be sent.
+pub record Relays {S : Type 0} (law : FilterLaw S) (from_client from_server : Bytes)
+    (before after : RelayState S) : Type 0 where
+  pub traffic : Traffic
+  pub passed : IsTraffic before.proxy traffic after.proxy
+  pub client : traffic.from_client ≡ from_client
+  pub server : traffic.from_server ≡ from_server
+  pub filtered : AreFiltered law before.proxy.client.limit before.proxy.limits.sent before.filter
+      traffic.lines after.filter
+  pub as_came : AreAsTheyCame (passed_in traffic.steps)
+  pub to_client : after.to_client ≡ before.to_client ++ traffic.to_client
+  pub to_server : after.to_server ≡ before.to_server ++ traffic.to_server
+
+-- When out of memory: the pieces came, and lines and replies passed as far as memory went; or
+-- nothing came. The filter may have moved on.
+abbrev pub RelaysInPart : {S : Type 0} → FilterLaw S → Bytes → Bytes → RelayState S → RelayState S
+    → Type 0
+RelaysInPart {S} law from_client from_server before after = (s : S)
+    × (Relays law from_client from_server before (record after { filter = s })
+    ⊎ (record after { filter = s } ≡ before))
+
+-- The client was given all that it can be given, and no line can be taken: nothing passes until more
+-- comes.
+pub record IsSettled (proxy : ProxyState) : Type 0 where
+  pub given : IsGiven proxy
+  pub no_line : waits proxy ≡ false
+      → first_client_line proxy.client.limit (lines_of proxy.client.bytes) ≡ None
+
+-- Why nothing more passes: the server's next reply is not owed, or what it sent is no reply, or is
+-- longer than a reply may be; or TLS begins.
+abbrev pub IsEnd : ProxyState → End → Type 0
+IsEnd proxy (end.Unasked code) = IsUnasked proxy code
+IsEnd proxy end.Malformed =
+    FindsFirst proxy.server.limit proxy.server.bytes (Err next.Malformed)
+IsEnd proxy end.TooLong = FindsFirst proxy.server.limit proxy.server.bytes (Err next.TooLong)
+IsEnd proxy end.Tls = BeginsTls proxy

@@ -1,2 +1,0 @@
-pub mod FilterLemmas
-pub mod RelayLemmas

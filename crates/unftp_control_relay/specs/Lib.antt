@@ -1,3 +1,0 @@
--- To be read in this order.
-pub mod Filtering
-pub mod Relaying
