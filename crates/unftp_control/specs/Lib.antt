@@ -72,7 +72,7 @@ pub use Rattle.unftp_control_client.specs.ForwardingSteps
 pub use Rattle.unftp_control_log.specs.LogLine
 pub use Rattle.unftp_control_log.specs.Known
 pub use Rattle.unftp_control_proxy.specs.ClientLines
-pub use Rattle.unftp_control_proxy.specs.Answers
+pub use Rattle.unftp_control_proxy.specs.ProxyAnswers
 pub use Rattle.unftp_control_proxy.specs.ProxyCalls
 pub use Rattle.unftp_control_proxy.specs.Traffic
 pub use Rattle.unftp_control_proxy.specs.Filtering

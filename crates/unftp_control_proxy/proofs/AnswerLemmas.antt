@@ -7,7 +7,7 @@ use Rattle.unftp_control_defs.specs.FtpReply.{FtpReply, CodeAndMsg, HasThreeDigi
 use Rattle.unftp_control_defs.specs.ReplyReader.{FrontReply}
 use Rattle.unftp_control_defs.specs.Turns.{is_preliminary}
 use Rattle.unftp_control_defs.proofs.EncodingLemmas.{FrontReply-encoded}
-use Rattle.unftp_control_proxy.specs.Answers.{IsFinalReply, as_read, has_three_digits, is_answer, is_final, is_one_line, is_plain_reply}
+use Rattle.unftp_control_proxy.specs.ProxyAnswers.{IsFinalReply, as_read, has_three_digits, is_answer, is_final, is_one_line, is_plain_reply}
 
 -- ---- the test says what is plain
 

@@ -22,7 +22,7 @@ use Rattle.unftp_control_client.specs.Dialogue.{after_line, after_reply, awaits_
 use Rattle.unftp_control_client.specs.ForwardingSteps.{IsGreeted}
 use Rattle.unftp_control_client.specs.declared.dialogue.Dialogue.{Dialogue}
 use Rattle.unftp_control_client.proofs.ClientStepLemmas.{answered-after_final, answered_after, sent-after_final}
-use Rattle.unftp_control_proxy.specs.Answers.{IsReplyOf}
+use Rattle.unftp_control_proxy.specs.ProxyAnswers.{IsReplyOf}
 use Rattle.unftp_control_proxy.specs.ClientLines.{after_front_line, front_line, head_or_none, line_in, shown_line, without_line}
 use Rattle.unftp_control_proxy.specs.ProxyCalls.{AnsweredBy, Fate, GivesAnswer, IsDecidable, IsWholeReply, PassesReply, ProxyState, ReplyBytes, SentAs, TakesReplyBytes, decided, greeting_owed, server_owes, waits}
 use Rattle.unftp_control_proxy.specs.Traffic.{IsSingle, IsTraffic, PassedReply, held_fate, nothing_passed, one_answer, one_line, one_reply}

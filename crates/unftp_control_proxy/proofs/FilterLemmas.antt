@@ -15,7 +15,7 @@ use Rattle.unftp_control_defs.specs.Lines.{IsLine, lines_of}
 use Rattle.unftp_control_defs.proofs.LackLemmas.{Lacks-append}
 use Rattle.unftp_control_defs.proofs.LineLemmas.{Lines-lines_of}
 use Rattle.unftp_control_write.specs.ClearLines.{has_clear_verb, is_clear, is_plain, is_plain_line}
-use Rattle.unftp_control_proxy.specs.Answers.{is_answer}
+use Rattle.unftp_control_proxy.specs.ProxyAnswers.{is_answer}
 use Rattle.unftp_control_proxy.specs.ClientLines.{first_client_line, front_line, head_or_none, line_in}
 use Rattle.unftp_control_proxy.specs.ProxyCalls.{AnsweredBy, Fate, IsAnswerError, IsAppendedError, IsDecidable, MayBeSent, ProxyState, SentAs, decided, stops, waits}
 use Rattle.unftp_control_proxy.specs.Traffic.{DecidedLine, IsSingle, IsTraffic, client_lines, one_line, sent_for}

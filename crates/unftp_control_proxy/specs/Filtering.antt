@@ -9,7 +9,7 @@ use Rattle.unftp_control_defs.specs.FtpReply.{FtpReply}
 use Rattle.unftp_control_defs.specs.Outcome.{outcome}
 use Rattle.unftp_control_message.specs.ReplyMeaning.{reply_of}
 use Rattle.unftp_control_write.specs.ClearLines.{is_clear}
-use Rattle.unftp_control_proxy.specs.Answers.{answer_of, is_answer, long_reply, refused_reply}
+use Rattle.unftp_control_proxy.specs.ProxyAnswers.{answer_of, is_answer, long_reply, refused_reply}
 use Rattle.unftp_control_proxy.specs.ProxyCalls.{AnsweredBy, Fate, ProxyState, SentAs, decided}
 use Rattle.unftp_control_proxy.specs.Traffic.{DecidedLine, IsSingle, sent_for}
 use Rattle.unftp_control_proxy.specs.declared.driver.Step.{Step as RustStep}

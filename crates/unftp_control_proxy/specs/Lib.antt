@@ -1,6 +1,6 @@
 -- To be read in this order.
 pub mod ClientLines
-pub mod Answers
+pub mod ProxyAnswers
 pub mod ProxyCalls
 pub mod Traffic
 pub mod Filtering

@@ -9,7 +9,7 @@ use Rattle.unftp_control_defs.specs.Outcome.{outcome}
 use Rattle.unftp_control_client.specs.ForwardingSteps.{AreForwardingSteps, Answered, Forwarded, ForwardingStep, Passed, replies_given}
 use Rattle.unftp_control_client.specs.Steps.{ReplyTo}
 use Rattle.unftp_control_client.specs.declared.dialogue.To.{To}
-use Rattle.unftp_control_proxy.specs.Answers.{as_read, is_answer}
+use Rattle.unftp_control_proxy.specs.ProxyAnswers.{as_read, is_answer}
 use Rattle.unftp_control_proxy.specs.ProxyCalls.{AnsweredBy, Fate, IsWholeReply, ProxyState, ReplyBytes, SentAs, server_owes}
 
 pub record DecidedLine : Type 0 where

@@ -3,7 +3,7 @@ ghost use Rattle.std.specs.Prelude.{◌≡◌, ◌++◌, IfErr, IsOk, OnErr, OnO
 ghost use Rattle.unftp_control_defs.specs.FtpReply.{encoded};
 ghost use Rattle.unftp_control_defs.specs.Room.{LacksRoom};
 ghost use Rattle.unftp_control_message.specs.ReplyMeaning.{reply_of};
-ghost use Rattle.unftp_control_proxy.specs.Answers.{IsNoAnswer, answer_of, is_answer, is_final};
+ghost use Rattle.unftp_control_proxy.specs.ProxyAnswers.{IsNoAnswer, answer_of, is_answer, is_final};
 
 use crate::errors::SendError;
 use std::alloc::AllocError;

@@ -7,7 +7,7 @@ ghost use Rattle.unftp_control_defs.specs.Outcome.{outcome};
 ghost use Rattle.unftp_control_defs.specs.Room.{LacksRoom};
 ghost use Rattle.unftp_control_codecs.specs.Memory.{PartsTo};
 ghost use Rattle.unftp_control_write.specs.Forwarding.{LacksRoomFor};
-ghost use Rattle.unftp_control_proxy.specs.Answers.{answer_of, is_answer};
+ghost use Rattle.unftp_control_proxy.specs.ProxyAnswers.{answer_of, is_answer};
 ghost use Rattle.unftp_control_proxy.specs.ClientLines.{first_client_line, front_line, line_in};
 ghost use Rattle.unftp_control_proxy.specs.ProxyCalls.{AnsweredBy, Fate, IsDecidable, IsFull, stops, waits};
 ghost use Rattle.unftp_control_proxy.specs.Traffic.{IsTraffic, one_line, sent_for};

@@ -11,7 +11,7 @@ ghost use Rattle.unftp_control_read.specs.ReplyDecoding.{pending_replies};
 ghost use Rattle.unftp_control_write.specs.ClearLines.{is_clear};
 ghost use Rattle.unftp_control_client.specs.Dialogue.{after_line, after_reply, at_start, awaits_tls, owes_reply};
 ghost use Rattle.unftp_control_client.specs.declared.dialogue.To.TheVariants.{Command, Greeting};
-ghost use Rattle.unftp_control_proxy.specs.Answers.{IsFinalReply, is_answer, is_final, long_reply, refused_reply};
+ghost use Rattle.unftp_control_proxy.specs.ProxyAnswers.{IsFinalReply, is_answer, is_final, long_reply, refused_reply};
 ghost use Rattle.unftp_control_proxy.specs.ClientLines.{after_front_line, front_line, shown_line};
 ghost use Rattle.unftp_control_proxy.specs.ProxyCalls.{AnsweredBy, Fate, GivesNext, GivesOther, IsDecidable, IsForwardingError, IsGiven, IsReplaceError, IsUnclearError, IsUnsent, MayBeSent, ProxyState, ReplyBytes, SentAs, decided, is_due, new_proxy, server_owes, stops, waits};
 ghost use Rattle.unftp_control_proxy.specs.Traffic.{ChangesNothing, GivesOwn, GivesReply, SendsLine, client_replies, fates_in, given_in, one_line, one_reply};

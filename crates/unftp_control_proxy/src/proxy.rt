@@ -6,7 +6,7 @@ ghost use Rattle.unftp_control_defs.specs.Lines.{IsLine, lines_of};
 ghost use Rattle.unftp_control_read.specs.ReplyDecoding.{FindsFirst, pushed};
 ghost use Rattle.unftp_control_write.specs.Forwarding.{IsForwarded};
 ghost use Rattle.unftp_control_client.specs.Dialogue.{after_reply, owes_reply};
-ghost use Rattle.unftp_control_proxy.specs.Answers.{IsReplyOf, answer_of, is_answer};
+ghost use Rattle.unftp_control_proxy.specs.ProxyAnswers.{IsReplyOf, answer_of, is_answer};
 ghost use Rattle.unftp_control_proxy.specs.ClientLines.{first_client_line, line_in, with_piece, without_line};
 ghost use Rattle.unftp_control_proxy.specs.ProxyCalls.{AnsweredBy, BeginsTls, GivesNext, GivesOther, IsAnswerError, IsAppendedError, IsCheckError, IsDecidable, IsForwardingError, IsFull, IsNextError, IsReplaceError, IsSendError, IsUnclearError, MayBeSent, SentAs, decided, is_due, new_proxy, send_error, server_owes, waits};
 
@@ -72,7 +72,7 @@ pub struct Proxy {
 
 impl Model for Proxy {
     ghost use Rattle.std.specs.Prelude.{IfSome, true, ◌≡◌};
-    ghost use Rattle.unftp_control_proxy.specs.Answers.{answer_of, is_answer};
+    ghost use Rattle.unftp_control_proxy.specs.ProxyAnswers.{answer_of, is_answer};
     ghost use Rattle.unftp_control_proxy.specs.ProxyCalls.{ProxyState, proxy_state};
 
     ghost Value = { ProxyState };

@@ -9,7 +9,7 @@ ghost use Rattle.unftp_control_defs.specs.Outcome.{outcome};
 ghost use Rattle.unftp_control_read.specs.ReplyDecoding.{pushed};
 ghost use Rattle.unftp_control_write.specs.Forwarding.{IsForwarded};
 ghost use Rattle.unftp_control_client.specs.Dialogue.{next_to};
-ghost use Rattle.unftp_control_proxy.specs.Answers.{is_answer};
+ghost use Rattle.unftp_control_proxy.specs.ProxyAnswers.{is_answer};
 ghost use Rattle.unftp_control_proxy.specs.ClientLines.{front_line, line_in, with_piece};
 ghost use Rattle.unftp_control_proxy.specs.ProxyCalls.{AnsweredBy, GivesAnswer, IsDecidable, PassesReply, ProxyState, ReplyBytes, SentAs, decided};
 ghost use Rattle.unftp_control_proxy.specs.Traffic.{IsTraffic, client_piece, nothing_passed, one_answer, one_line, one_reply, server_piece};

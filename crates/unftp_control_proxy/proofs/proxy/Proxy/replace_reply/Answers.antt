@@ -1,7 +1,7 @@
 use Rattle.std.proofs.Common.{Err, false, inr, refl, rules, take, true, ◌≡◌}
 use Rattle.unftp_control_read.specs.ReplyDecoding.{BeginsWith}
 use Rattle.unftp_control_client.specs.Dialogue.{owes_reply}
-use Rattle.unftp_control_proxy.specs.Answers.{IsReplyOf}
+use Rattle.unftp_control_proxy.specs.ProxyAnswers.{IsReplyOf}
 use Rattle.unftp_control_proxy.proofs.proxy.Proxy.replace_reply.Goals as goal
 
 pub returns-then-not-owes_reply-clause-why : goal.returns-then-not-owes_reply-clause-why
