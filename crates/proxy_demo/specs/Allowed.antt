@@ -15,6 +15,7 @@ abbrev pub allows : Verb → Bool
 allows verb.User = true
 allows verb.Pass = true
 allows verb.Acct = true
+allows verb.Auth = true
 allows verb.Quit = true
 allows verb.Noop = true
 allows verb.Syst = true

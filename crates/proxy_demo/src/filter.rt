@@ -19,7 +19,7 @@ fn allows(verb: Verb) -> bool
     ensures { result ≡ allows verb }
 {
     match verb {
-        Verb::User | Verb::Pass | Verb::Acct | Verb::Quit | Verb::Noop => true,
+        Verb::User | Verb::Pass | Verb::Acct | Verb::Auth | Verb::Quit | Verb::Noop => true,
         Verb::Syst | Verb::Feat | Verb::Help | Verb::Stat | Verb::Opts => true,
         Verb::TypeCode | Verb::Stru | Verb::Mode | Verb::Allo | Verb::Rest => true,
         Verb::Pasv | Verb::Epsv | Verb::Port | Verb::Abor => true,

@@ -50,28 +50,38 @@ impl Session {
     /// Writes what each side is sent.
     fn write_sent<W: Write>(&mut self, writer: &mut W) -> io::Result<()> {
         let relay = &mut self.relay;
-        if !relay.to_client.is_empty() {
-            writeln!(writer, "to-client {}", Quoted(relay.to_client.as_slice()))?;
-        }
-        if !relay.to_server.is_empty() {
-            writeln!(writer, "to-server {}", Quoted(relay.to_server.as_slice()))?;
-        }
+        write_bytes("to-client", relay.to_client.as_slice(), writer)?;
+        write_bytes("to-server", relay.to_server.as_slice(), writer)?;
         relay.to_client.clear();
         relay.to_server.clear();
         Ok(())
     }
 
-    /// Writes why the connection ends. The client is given what the server says before it closes.
+    /// Writes why the connection ends. Each side is sent what is pending for it: what the server
+    /// says before it closes, or what comes after AUTH and its 234.
     fn write_end<W: Write>(&self, end: End, writer: &mut W) -> io::Result<()> {
+        let proxy = &self.relay.proxy;
         match end {
             End::Unasked(code) => {
-                let last = Quoted(self.relay.proxy.server_pending());
-                writeln!(writer, "unasked {code}\nto-client {last}")?;
+                writeln!(writer, "unasked {code}")?;
+                write_bytes("to-client", proxy.server_pending(), writer)?;
+            }
+            End::Tls => {
+                writer.write_all(b"tls\n")?;
+                write_bytes("to-client", proxy.server_pending(), writer)?;
+                write_bytes("to-server", proxy.client_pending(), writer)?;
             }
             End::Malformed => writer.write_all(b"malformed\n")?,
             End::TooLong => writer.write_all(b"too-long\n")?,
-            End::Tls => writer.write_all(b"tls\n")?,
         }
         writer.write_all(b"end\n")
+    }
+}
+
+/// Writes what a side is sent, if that is anything.
+fn write_bytes<W: Write>(side: &str, bytes: &[u8], writer: &mut W) -> io::Result<()> {
+    match bytes {
+        [] => Ok(()),
+        _ => writeln!(writer, "{side} {}", Quoted(bytes)),
     }
 }
