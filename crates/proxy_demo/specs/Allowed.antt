@@ -45,9 +45,10 @@ allows _ = false
 
 abbrev pub allows_word : Option Verb → Bool
 allows_word None = false
+allows_word (Some verb.Auth) = false
 allows_word (Some verb) = allows verb
 
--- its verb is allowed
+-- its verb is allowed, and not AUTH: another mechanism may begin TLS too
 abbrev pub may_go_as_it_is : Bytes → Bool
 may_go_as_it_is line = allows_word (row_of (upper (verb_of line)) verbs)
 

@@ -30,12 +30,14 @@ fn allows(verb: Verb) -> bool
     }
 }
 
-/// Whether a line that is no command may go to the server as it is: its verb is allowed.
+/// Whether a line that is no command may go to the server as it is: its verb is allowed, and not
+/// AUTH, of which another mechanism may begin TLS too.
 fn may_go_as_it_is(line: &[u8]) -> bool
     ensures { result ≡ may_go_as_it_is line.now }
 {
     let (word, _) = split(line);
     match verb_named(word) {
+        Some(Verb::Auth) => false,
         Some(verb) => allows(verb),
         None => false,
     }
