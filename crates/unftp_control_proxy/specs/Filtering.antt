@@ -9,7 +9,7 @@ use Rattle.unftp_control_defs.specs.FtpReply.{FtpReply}
 use Rattle.unftp_control_defs.specs.Outcome.{outcome}
 use Rattle.unftp_control_message.specs.ReplyMeaning.{reply_of}
 use Rattle.unftp_control_write.specs.ClearLines.{is_clear}
-use Rattle.unftp_control_proxy.specs.ProxyAnswers.{answer_of, is_answer, long_reply, refused_reply}
+use Rattle.unftp_control_proxy.specs.ProxyAnswers.{answer_reply, is_answer, long_reply, refused_reply}
 use Rattle.unftp_control_proxy.specs.ProxyCalls.{AnsweredBy, Fate, ProxyState, SentAs, decided}
 use Rattle.unftp_control_proxy.specs.Traffic.{DecidedLine, IsSingle, sent_for}
 use Rattle.unftp_control_proxy.specs.declared.driver.Step.{Step as RustStep}
@@ -65,7 +65,7 @@ step_for (AnswerWith reply) line = Reply reply
 abbrev pub IsLineStep : LineStep → RustStep → Bytes → Bytes → Type 0
 IsLineStep (Send line) step.Appended before after = after ≡ before ++ line
 IsLineStep (Reply reply) (step.Answer answer) before after =
-    (answer_of answer ≡ reply) × (after ≡ before)
+    (answer_reply answer ≡ reply) × (after ≡ before)
 IsLineStep _ _ before after = ⊥
 
 -- what the client is told where a line can't be sent or answered so, for this reason

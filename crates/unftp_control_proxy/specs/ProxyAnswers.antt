@@ -64,7 +64,7 @@ refused_reply = CodeAndMsg 500 (codes "Not understood")
 abbrev pub long_reply : FtpReply
 long_reply = CodeAndMsg 500 (codes "Line too long")
 
-abbrev pub answer_of : Answer → FtpReply
-answer_of (answer.Reply reply) = reply_of reply
-answer_of answer.NotUnderstood = refused_reply
-answer_of answer.LineTooLong = long_reply
+abbrev pub answer_reply : Answer → FtpReply
+answer_reply (answer.Reply reply) = reply_of reply
+answer_reply answer.NotUnderstood = refused_reply
+answer_reply answer.LineTooLong = long_reply

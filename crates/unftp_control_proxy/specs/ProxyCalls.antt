@@ -19,7 +19,7 @@ use Rattle.unftp_control_write.specs.declared.forwarding.ForwardError.{ForwardEr
 use Rattle.unftp_control_write.specs.declared.forwarding.ForwardError.TheVariants as forward
 use Rattle.unftp_control_client.specs.Dialogue.{after_line, after_reply, at_start, awaits_tls, commands_owed, owes_reply}
 use Rattle.unftp_control_client.specs.declared.dialogue.Dialogue.{Dialogue}
-use Rattle.unftp_control_proxy.specs.ProxyAnswers.{IsNoAnswer, IsReplyOf, answer_of, is_answer}
+use Rattle.unftp_control_proxy.specs.ProxyAnswers.{IsNoAnswer, IsReplyOf, answer_reply, is_answer}
 use Rattle.unftp_control_proxy.specs.ClientLines.{Client, front_line, no_client_bytes, without_line}
 use Rattle.unftp_control_proxy.specs.declared.answer.Answer.{Answer}
 use Rattle.unftp_control_proxy.specs.declared.proxy.Limits.{Limits}
@@ -45,7 +45,7 @@ proxy_state client server dialogue answer limits = record {
   client = client;
   server = server;
   dialogue = dialogue;
-  answer = option_map answer_of answer;
+  answer = option_map answer_reply answer;
   limits = limits;
 }
 

@@ -3,7 +3,7 @@ ghost use Rattle.std.specs.Prelude.{◌≡◌, ◌++◌, IfErr, IsOk, OnErr, OnO
 ghost use Rattle.unftp_control_defs.specs.FtpReply.{encoded};
 ghost use Rattle.unftp_control_defs.specs.Room.{LacksRoom};
 ghost use Rattle.unftp_control_message.specs.ReplyMeaning.{reply_of};
-ghost use Rattle.unftp_control_proxy.specs.ProxyAnswers.{IsNoAnswer, answer_of, is_answer, is_final};
+ghost use Rattle.unftp_control_proxy.specs.ProxyAnswers.{IsNoAnswer, answer_reply, is_answer, is_final};
 
 use crate::errors::SendError;
 use std::alloc::AllocError;
@@ -25,8 +25,8 @@ pub enum Answer {
 impl Answer {
     /// Whether a line may be answered so, and if not, why.
     pub(crate) fn check(&self) -> Result<(), SendError>
-        ensures ok { IsOk result → is_answer (answer_of self.now) ≡ true }
-        ensures why { IfErr result (IsNoAnswer (answer_of self.now)) }
+        ensures ok { IsOk result → is_answer (answer_reply self.now) ≡ true }
+        ensures why { IfErr result (IsNoAnswer (answer_reply self.now)) }
     {
         match self {
             Answer::Reply(reply) => check_reply(reply),
@@ -38,9 +38,9 @@ impl Answer {
     /// Appends its bytes, or nothing where there is no room for them.
     pub(crate) fn append_to(&self, out: &mut Vec<u8>) -> Result<(), AllocError>
         ensures ok { OnOk result
-            (out.new.items ≡ out.old.items ++ encoded (answer_of self.now)) }
+            (out.new.items ≡ out.old.items ++ encoded (answer_reply self.now)) }
         ensures err { OnErr result (out.new.items ≡ out.old.items) }
-        ensures memory { OnErr result (LacksRoom out.old (encoded (answer_of self.now))) }
+        ensures memory { OnErr result (LacksRoom out.old (encoded (answer_reply self.now))) }
     {
         match self {
             Answer::Reply(reply) => append_reply(reply, out),

@@ -7,7 +7,7 @@ ghost use Rattle.unftp_control_defs.specs.Outcome.{outcome};
 ghost use Rattle.unftp_control_defs.specs.Room.{LacksRoom};
 ghost use Rattle.unftp_control_codecs.specs.Memory.{PartsTo};
 ghost use Rattle.unftp_control_write.specs.Forwarding.{LacksRoomFor};
-ghost use Rattle.unftp_control_proxy.specs.ProxyAnswers.{answer_of, is_answer};
+ghost use Rattle.unftp_control_proxy.specs.ProxyAnswers.{answer_reply, is_answer};
 ghost use Rattle.unftp_control_proxy.specs.ClientLines.{first_client_line, front_line, line_in};
 ghost use Rattle.unftp_control_proxy.specs.ProxyCalls.{AnsweredBy, Fate, IsDecidable, IsFull, stops, waits};
 ghost use Rattle.unftp_control_proxy.specs.Traffic.{IsTraffic, one_line, sent_for};
@@ -114,8 +114,8 @@ fn ask<F: Filter>(
 /// Answers the line so.
 fn refuse(proxy: &mut Proxy, answer: Answer)
     requires decidable { IsDecidable proxy.old }
-    requires single { is_answer (answer_of answer) ≡ true }
-    ensures { Becomes (AnsweredBy (answer_of answer)) proxy.old [] [] proxy.new }
+    requires single { is_answer (answer_reply answer) ≡ true }
+    ensures { Becomes (AnsweredBy (answer_reply answer)) proxy.old [] [] proxy.new }
 {
     let refused = proxy.answer(answer);
     drop(refused);
@@ -162,7 +162,7 @@ fn send_or_refuse(
 /// Answers the line so, or with 500 where that is not one final reply.
 fn answer_or_refuse(proxy: &mut Proxy, answer: Answer)
     requires { IsDecidable proxy.old }
-    ensures { Becomes (fate_by proxy.old.limits.sent (ReplyStep (answer_of answer)))
+    ensures { Becomes (fate_by proxy.old.limits.sent (ReplyStep (answer_reply answer)))
         proxy.old [] [] proxy.new }
 {
     if proxy.answer(answer).is_err() {

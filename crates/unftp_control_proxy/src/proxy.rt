@@ -6,7 +6,7 @@ ghost use Rattle.unftp_control_defs.specs.Lines.{IsLine, lines_of};
 ghost use Rattle.unftp_control_read.specs.ReplyDecoding.{FindsFirst, pushed};
 ghost use Rattle.unftp_control_write.specs.Forwarding.{IsForwarded};
 ghost use Rattle.unftp_control_client.specs.Dialogue.{after_reply, owes_reply};
-ghost use Rattle.unftp_control_proxy.specs.ProxyAnswers.{IsReplyOf, answer_of, is_answer};
+ghost use Rattle.unftp_control_proxy.specs.ProxyAnswers.{IsReplyOf, answer_reply, is_answer};
 ghost use Rattle.unftp_control_proxy.specs.ClientLines.{first_client_line, line_in, with_piece, without_line};
 ghost use Rattle.unftp_control_proxy.specs.ProxyCalls.{AnsweredBy, BeginsTls, GivesNext, GivesOther, IsAnswerError, IsAppendedError, IsCheckError, IsDecidable, IsForwardingError, IsFull, IsNextError, IsReplaceError, IsSendError, IsUnclearError, MayBeSent, SentAs, decided, is_due, new_proxy, send_error, server_owes, waits};
 
@@ -72,7 +72,7 @@ pub struct Proxy {
 
 impl Model for Proxy {
     ghost use Rattle.std.specs.Prelude.{IfSome, true, ◌≡◌};
-    ghost use Rattle.unftp_control_proxy.specs.ProxyAnswers.{answer_of, is_answer};
+    ghost use Rattle.unftp_control_proxy.specs.ProxyAnswers.{answer_reply, is_answer};
     ghost use Rattle.unftp_control_proxy.specs.ProxyCalls.{ProxyState, proxy_state};
 
     ghost Value = { ProxyState };
@@ -81,7 +81,7 @@ impl Model for Proxy {
         proxy.limits };
 
     ghost invariant = { λ proxy.
-        IfSome proxy.answer (λ answer. is_answer (answer_of answer) ≡ true) };
+        IfSome proxy.answer (λ answer. is_answer (answer_reply answer) ≡ true) };
 }
 
 impl Proxy {
@@ -350,10 +350,10 @@ impl Proxy {
     /// `NotFinal` where another reply to the same line would have to follow, and `NotPlain` where a
     /// client would not read it as one reply. At an error nothing changes.
     pub fn answer(&mut self, answer: Answer) -> Result<(), SendError>
-        ensures ok { OnOk result (self.new ≡ decided self.old (AnsweredBy (answer_of answer))) }
+        ensures ok { OnOk result (self.new ≡ decided self.old (AnsweredBy (answer_reply answer))) }
         ensures may { OnOk result (IsDecidable self.old) }
-        ensures single { OnOk result (is_answer (answer_of answer) ≡ true) }
-        ensures why { IfErr result (IsAnswerError self.old (answer_of answer)) }
+        ensures single { OnOk result (is_answer (answer_reply answer) ≡ true) }
+        ensures why { IfErr result (IsAnswerError self.old (answer_reply answer)) }
         ensures err { OnErr result (self.new ≡ self.old) }
     {
         if !self.is_decidable() {
@@ -367,8 +367,8 @@ impl Proxy {
 
     /// Holds the answer until it is given.
     fn hold(&mut self, answer: Answer)
-        requires { is_answer (answer_of answer) ≡ true }
-        ensures { self.new ≡ record self.old { answer = Some (answer_of answer) } }
+        requires { is_answer (answer_reply answer) ≡ true }
+        ensures { self.new ≡ record self.old { answer = Some (answer_reply answer) } }
     {
         let before = mem::replace(&mut self.answer, Some(answer));
         drop(before);
