@@ -1,9 +1,11 @@
 -- What the examples share.
-use Rattle.std.proofs.Common.{◌≡◌, List, [], ◌∷◌, ◌++◌, append-nil, codes, refl, sym, ◌∙◌}
+use Rattle.std.proofs.Common.{◌≡◌, ℕ, List, [], ◌∷◌, ◌++◌, Option, append-nil, codes, refl, sym, ap, ◌∙◌}
 use Rattle.unftp_control.specs.Bytes.{Bytes}
-use Rattle.unftp_control.specs.Lines.{IsLine, lines_of}
+use Rattle.unftp_control.specs.Events.{FtpEvent}
+use Rattle.unftp_control.specs.Lines.{IsLine, incomplete_line, lines_of}
+use Rattle.unftp_control.specs.TakingSteps.{TakesEvent}
 use Rattle.unftp_control.specs.ReplyReader.{HasFront, IsPartial}
-use Rattle.unftp_control.proofs.LineLemmas.{Lines-unique}
+use Rattle.unftp_control.proofs.LineLemmas.{Lines-unique, line_first}
 use Rattle.unftp_control.proofs.ReplyLemmas.{FrontReply-front_of, IsPartial-front_of}
 
 -- the lines of a line are that line
@@ -15,6 +17,15 @@ lines_of-IsLine {line} is =
       each = (is, tt);
       unended = tt;
     })).0
+
+-- what is taken with an event is the first line
+pub first_taken : {limit : Option ℕ} {bytes after : Bytes} {event : FtpEvent}
+    (taken : TakesEvent limit bytes event after)
+    → (lines_of bytes ≡ taken.line ∷ lines_of after)
+    × (incomplete_line bytes ≡ incomplete_line after)
+first_taken {after = after} taken =
+    let first = line_first taken.line after taken.is_line in
+    (ap lines_of taken.whole ∙ first.0, ap incomplete_line taken.whole ∙ first.1)
 
 -- a list with an element in it is not empty
 pub not_empty : {A : Type 0} (first : List A) (x : A) (later : List A)

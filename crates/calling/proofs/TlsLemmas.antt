@@ -4,7 +4,7 @@ use Rattle.std.specs.List.{concat}
 use Rattle.std.proofs.lemmas.Bool.{false≢true}
 use Rattle.unftp_control.specs.Bytes.{Bytes}
 use Rattle.unftp_control.specs.Decoder.{saturating_u64}
-use Rattle.unftp_control.specs.Run.{after_end, ends_for, unread, as_session}
+use Rattle.unftp_control.specs.Run.{after_end, ends_for, text_for, unread, as_session}
 use Rattle.unftp_control.specs.Input.{InputState}
 use Rattle.unftp_control.specs.Writing.{OutputState}
 use Rattle.calling.proofs.Computing.{at_bytes}
@@ -19,6 +19,11 @@ Ends input ended after = (ends_for (Some 512) (as_session until_tls) false input
 pub asked : Ends (codes "AUTH TLS\r\n") true []
 unfolding at_bytes
 asked = (refl, refl, refl)
+
+pub asked-replied : text_for (Some 512) (as_session until_tls) false (codes "AUTH TLS\r\n")
+    ≡ codes "234 Upgrading to TLS\r\n"
+unfolding at_bytes
+asked-replied = refl
 
 pub asked-before : Ends (codes "AUTH TLS\r\nX") true (codes "X")
 unfolding at_bytes

@@ -63,6 +63,9 @@ no_facts = record { kind = false; size = false; modify = false }
 abbrev pub image_modes : Modes
 image_modes = record { image = true; epsv_only = false; facts = all_facts }
 
+abbrev pub ascii_modes : Modes
+ascii_modes = record { image = false; epsv_only = false; facts = all_facts }
+
 -- The first line is taken, and what it asks is answered and remembered.
 pub record AnswersLine (before : Pending) (modes : Modes) (sent : Bytes)
     (after : Pending) (modes' : Modes) (sent' : Bytes) : Type 0 where

@@ -8,6 +8,7 @@ use Rattle.unftp_control_defs.specs.Run.{SessionLaw, as_session}
 use Rattle.unftp_control_login.specs.Login.{Accounts}
 use Rattle.unftp_control_login.specs.Gate.{not_accepted}
 use Rattle.unftp_control_login.specs.HandlerCalls.{Call, CallState}
+use Rattle.unftp_control_login.specs.declared.inner.Inner.{Inner}
 
 abbrev pub anna : Bytes
 anna = codes "anna"
@@ -45,6 +46,10 @@ here = CodeAndMsg 257 (codes "here")
 -- calls that were made, how often memory was refused, and how often the handler failed
 abbrev pub so_far : List Call → ℕ → ℕ → CallState
 so_far calls refused failed = record { calls = calls; refused = refused; failed = failed }
+
+-- the same of a handler of which only its failures are kept
+abbrev pub inner_with : List Call → ℕ → ℕ → Inner ℕ
+inner_with calls refused failed = record { handler = failed; calls = calls; refused = refused }
 
 -- counts the events that it receives, and is done after nine
 abbrev pub counting : SessionLaw ℕ

@@ -1,5 +1,5 @@
 //! Sessions worked out by hand: what the definitions of a login say of them.
-ghost use Rattle.std.specs.Prelude.{◌≡◌, ◌++◌, not, true, false, [], ◌∷◌, None, Some, codes};
+ghost use Rattle.std.specs.Prelude.{◌≡◌, ◌++◌, ℕ, not, true, false, [], ◌∷◌, None, Some, Ok, Err, codes};
 ghost use Rattle.std.specs.List.{list_all};
 ghost use Rattle.unftp_control_defs.specs.FtpCommand.{User, Pass, Acct, Syst, Stat, TypeCode, Stru, Mode, Help, Noop, Pasv, Epsv, Port, Retr, Stor, Appe, List, Nlst, Mlst, Mlsd, Feat, Pwd, Cwd, Cdup, Opts, Dele, Rmd, Quit, Mkd, Allo, Abor, Stou, Rnfr, Rnto, Auth, Ccc, Pbsz, Prot, Size, Rest, Mdtm, Md5, Site, Other};
 ghost use Rattle.unftp_control_defs.specs.Events.{Command, Refused, line_too_long, out_of_memory};
@@ -10,13 +10,17 @@ ghost use Rattle.unftp_control_defs.specs.declared.parameters.ModeParam.TheVaria
 ghost use Rattle.unftp_control_defs.specs.declared.parameters.Opt.TheVariants.{Utf8};
 ghost use Rattle.unftp_control_defs.specs.declared.parameters.ProtParam.TheVariants.{Private};
 ghost use Rattle.unftp_control_defs.specs.declared.parameters.StruParam.TheVariants.{File};
+ghost use Rattle.unftp_control_message.specs.ErrorMeaning.{fault_of};
+ghost use Rattle.unftp_control_message.specs.declared.reply.error.ControlChanError.{ControlChanError as RustError};
 ghost use Rattle.unftp_control_login.specs.Login.{GaveName, HasLoggedIn, IsLoggedIn, flushes_login, needs_login};
 ghost use Rattle.unftp_control_login.specs.declared.stage.Stage.TheVariants.{LoggedIn, Named, NoName};
-ghost use Rattle.unftp_control_login.specs.HandlerCalls.{AllCalled, Asks, AsksFurther, FailedCall, Makes, Passes, tells};
+ghost use Rattle.unftp_control_login.specs.HandlerCalls.{AllCalled, Asks, AsksFurther, CallsMade, FailedCall, Makes, Passes, tells};
 ghost use Rattle.unftp_control_login.specs.Gate.{Answers, LogsIn, PassesOn, calls_by, closed, gated_law, logged_in, login_needed, name_needed, not_accepted, password_needed, questions};
+ghost use Rattle.unftp_control_login.specs.GateState.{GateCalled};
+ghost use Rattle.unftp_control_login.specs.LimitState.{LimitCalled};
 ghost use Rattle.unftp_control_login.specs.LoginLimit.{EndsWith, failed_in_run, limited_law, limited_to, too_many};
 ghost use Rattle.unftp_control_login.specs.Promises.{AgreeOnAll, AllLookAlike, DifferInPasswords, FailsAlike, IsRefusedLogin, IsTurnedAway, LearnsName, LooksAlike, MembersAlone, NoFailure, PasswordFits, ReachesHandler, SendsPlainExchanges, ServesMembersAlone, gate_calls, limit_calls};
-ghost use Rattle.unftp_control_login.specs.Examples.{anna, anna_and_ben, ben, counting, here, login, only_anna, opened, pass, refusing, secret, silent, so_far, transferring, user, wrong};
+ghost use Rattle.unftp_control_login.specs.Examples.{anna, anna_and_ben, ben, counting, here, inner_with, login, only_anna, opened, pass, refusing, secret, silent, so_far, transferring, user, wrong};
 
 /// Which events need a login, and which undo one.
 pub fn logins_are_needed()
@@ -126,6 +130,55 @@ pub fn calls_fail()
         (so_far (Makes here ∷ []) 1 0) out_of_memory }
     ensures not_refused { FailedCall counting (calls_by counting 0 (Answers here)) (so_far [] 0 0)
         (so_far (Makes here ∷ []) 0 0) out_of_memory → ⊥ }
+{}
+
+/// Which calls were made, by the result: all of them, or those up to one that failed as it may.
+pub fn calls_end_so()
+    ensures made { CallsMade {T = ℕ} counting (calls_by counting 0 (Answers here)) (so_far [] 0 0)
+        (so_far (Makes here ∷ []) 0 0) (Ok 0) }
+    ensures not_made { ¬ CallsMade {T = ℕ} counting (calls_by counting 0 (Answers here))
+        (so_far [] 0 0) (so_far [] 0 0) (Ok 0) }
+    ensures refused { (error : RustError) → fault_of error ≡ out_of_memory
+        → CallsMade {T = ℕ} counting (calls_by counting 0 (Answers here)) (so_far [] 0 0)
+        (so_far (Makes here ∷ []) 1 0) (Err error) }
+    ensures not_refused { (error : RustError) → ¬ CallsMade {T = ℕ} counting
+        (calls_by counting 0 (Answers here)) (so_far [] 0 0) (so_far (Makes here ∷ []) 0 0)
+        (Err error) }
+{}
+
+/// What a gate has called for the first reply to an event: the handler, where it passes that on.
+pub fn a_gate_has_called()
+    ensures passed { GateCalled {T = ℕ} (λ failed. failed) counting (closed only_anna 0)
+        (inner_with [] 0 0) (Command Noop) (inner_with (Passes (Command Noop) ∷ []) 0 0) (Ok 0) }
+    ensures asked_further { ¬ GateCalled {T = ℕ} (λ failed. failed) counting (closed only_anna 0)
+        (inner_with [] 0 0) (Command Noop) (inner_with (Passes (Command Noop) ∷ AsksFurther ∷ []) 0 0)
+        (Ok 0) }
+    ensures barred { ¬ GateCalled {T = ℕ} (λ failed. failed) counting (closed only_anna 0)
+        (inner_with [] 0 0) (Command Pwd) (inner_with (Passes (Command Pwd) ∷ []) 0 0) (Ok 0) }
+    ensures failed { (error : RustError) → fault_of error ≡ out_of_memory
+        → GateCalled {T = ℕ} (λ failed. failed) counting (closed only_anna 0) (inner_with [] 0 0)
+        (Command Noop) (inner_with (Passes (Command Noop) ∷ []) 0 1) (Err error) }
+    ensures other_fault { (error : RustError) → fault_of error ≡ line_too_long
+        → ¬ GateCalled {T = ℕ} (λ failed. failed) counting (closed only_anna 0) (inner_with [] 0 0)
+        (Command Noop) (inner_with (Passes (Command Noop) ∷ []) 0 1) (Err error) }
+{}
+
+/// What a limit has called for the first reply to an event: the handler, and memory for the 421.
+pub fn a_limit_has_called()
+    ensures last { LimitCalled {T = ℕ} (λ failed. failed) (gated_law counting)
+        (limited_to 1 (closed only_anna 0)) (inner_with [] 0 0) (pass wrong)
+        (inner_with (Passes (pass wrong) ∷ Makes too_many ∷ []) 0 0) (Ok 0) }
+    ensures not_last { ¬ LimitCalled {T = ℕ} (λ failed. failed) (gated_law counting)
+        (limited_to 2 (closed only_anna 0)) (inner_with [] 0 0) (pass wrong)
+        (inner_with (Passes (pass wrong) ∷ Makes too_many ∷ []) 0 0) (Ok 0) }
+    ensures refused { (error : RustError) → fault_of error ≡ out_of_memory
+        → LimitCalled {T = ℕ} (λ failed. failed) (gated_law counting)
+        (limited_to 1 (closed only_anna 0)) (inner_with [] 0 0) (pass wrong)
+        (inner_with (Passes (pass wrong) ∷ Makes too_many ∷ []) 1 0) (Err error) }
+    ensures other_fault { (error : RustError) → fault_of error ≡ line_too_long
+        → ¬ LimitCalled {T = ℕ} (λ failed. failed) (gated_law counting)
+        (limited_to 1 (closed only_anna 0)) (inner_with [] 0 0) (Command Noop)
+        (inner_with (Passes (Command Noop) ∷ []) 0 1) (Err error) }
 {}
 
 /// Who is turned away, and who reaches the handler.
