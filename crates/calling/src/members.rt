@@ -33,8 +33,8 @@ pub fn serve_members<R: Read, W: Write, A: Accounts + Drop, H: Session + Drop>(
         (input_state_of R.remaining reader.old) (input_state_of R.remaining reader.new)) }
     // a reply that reports no failure, among those to a command that needs a login, comes only
     // after a name and a password that the accounts accept
-    ensures members { ((heard : List H.Said) → SendsPlainExchanges (H.law heard)) → OnOk result
-        ((read written : Bytes)
+    ensures members { ((heard : List H.Said) → SendsPlainExchanges (H.law heard) (H.state handler))
+        → OnOk result ((read written : Bytes)
         × HasRead (input_state_of R.remaining reader.old) (input_state_of R.remaining reader.new)
         read
         × HasWritten (output_state_of W.contents writer.old) (output_state_of W.contents writer.new)

@@ -7,7 +7,7 @@ use Rattle.unftp_control_defs.specs.Events as event
 use Rattle.unftp_control_defs.specs.FtpCommand as command
 use Rattle.unftp_control_defs.specs.FtpCommand.{FtpCommand}
 use Rattle.unftp_control_defs.specs.FtpReply.{CodeAndMsg}
-use Rattle.unftp_control_defs.specs.Run.{as_session}
+use Rattle.unftp_control_defs.specs.Run.{as_session, last_state}
 use Rattle.unftp_control_defs.specs.declared.parameters.ModeParam.TheVariants as mode
 use Rattle.unftp_control_defs.specs.declared.parameters.Opt.TheVariants as opt
 use Rattle.unftp_control_defs.specs.declared.parameters.StruParam.TheVariants as structure
@@ -86,8 +86,8 @@ event-final : (session : Session) (e : FtpEvent) → is_final (event_reply sessi
 event-final session (event.Command c) = command-final session.directory c
 event-final session (event.Refused fault) = refusal-final fault.kind fault.source
 
-pub SendsPlainExchanges-files : SendsPlainExchanges (as_session files_law)
-SendsPlainExchanges-files = (
-  λ session event. (final (event_reply session event) (event-final session event)).1,
-  λ session event. ((final (event_reply session event) (event-final session event)).0, tt),
-)
+pub SendsPlainExchanges-files : (first : Session) → SendsPlainExchanges (as_session files_law) first
+SendsPlainExchanges-files first before event on =
+    let session = last_state (as_session files_law) first before in
+    let is = final (event_reply session event) (event-final session event) in
+    (is.1, (is.0, tt))

@@ -5,13 +5,14 @@ ghost use Rattle.unftp_control_login.specs.Promises.{SendsPlainExchanges};
 ghost use Rattle.login_demo.specs.Session.{files_law, found};
 ghost use Rattle.login_demo.specs.Tree.{entry_names};
 ghost use Rattle.login_demo.specs.Walking.{path_text};
+ghost use Rattle.login_demo.specs.declared.session.Session.{Session};
 ghost use Rattle.login_demo.specs.declared.tree.Directory.{Directory};
 ghost use Rattle.login_demo.specs.declared.tree.Entry.{Entry};
 
 /// Each event has one reply that is sent and is final, and a client can read it back (RFC 959,
 /// section 4.2).
 pub fn files_replies_are_plain()
-    ensures { SendsPlainExchanges (as_session files_law) }
+    ensures { (first : Session) → SendsPlainExchanges (as_session files_law) first }
 {}
 
 /// The path from the root with which an entry is shown leads to it from each directory.

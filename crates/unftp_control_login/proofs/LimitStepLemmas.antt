@@ -96,6 +96,22 @@ others-unchanged : {S : Type 0} (left : ℕ) (steps : Steps S)
 others-unchanged left [] = refl
 others-unchanged left (step ∷ steps) = ap (λ later. step ∷ later) (others-unchanged left steps)
 
+-- the handler's state after them, and after one reply to any event
+pub limited-others : {S : Type 0} (s : Limited S) (left : ℕ) (steps : Steps S)
+    → (state_after s (limited_steps left false steps)).inner ≡ state_after s.inner steps
+limited-others s left [] = refl
+limited-others s left (step ∷ steps) =
+    limited-others (at_event left false false step.1) left steps
+
+pub limited-alone : {S : Type 0} (s : Limited S) (left : ℕ) (at_pass : Bool) (step : FtpReply × S)
+    → (state_after s (limited_steps left at_pass (step ∷ []))).inner ≡ step.1
+limited-alone s left at_pass step = by_cases (λ steps. (state_after s steps).inner ≡ step.1)
+    left at_pass (is_failure step.0) step [] (record {
+      other = λ none. refl;
+      failed = λ at_pass failure more. refl;
+      last = λ at_pass failure few. refl;
+    })
+
 -- A login that fails is counted once.
 some-failure : (at_pass failure later : Bool) → (at_pass && failure) ≡ false
     → (at_pass && (failure || later)) ≡ (at_pass && later)

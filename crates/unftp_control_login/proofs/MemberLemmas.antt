@@ -1,27 +1,27 @@
 -- Who is served: only who has logged in.
-use Rattle.std.proofs.Common.{◌≡◌, ◌<◌, ℕ, Bool, true, false, not, ◌&&◌, cond, IsTrue, List, [], ◌∷◌, ◌++◌, length, filter_map, map, take, Option, Some, None, ◌⊎◌, inl, inr, refl, sym, ap, ◌∙◌, subst, arith}
+use Rattle.std.proofs.Common.{◌≡◌, ◌<◌, ℕ, ◌==◌, Bool, true, false, not, ◌&&◌, ◌||◌, cond, IsTrue, List, [], ◌∷◌, ◌++◌, length, filter_map, map, take, Option, Some, None, ◌⊎◌, ⊎_elim, inl, inr, refl, sym, ap, ◌∙◌, subst, arith}
 use Rattle.std.specs.List.{AllByRecursion}
 use Rattle.std.specs.Option.{IfSome}
 use Rattle.std.specs.Prelude.{if◌then◌else◌}
-use Rattle.std.proofs.lemmas.Bool.{cond_both}
+use Rattle.std.proofs.lemmas.Bool.{cond_both, or_parts}
 use Rattle.std.proofs.lemmas.List.{length-map}
 use Rattle.std.proofs.Math.Seq.{take-append_seam}
 use Rattle.unftp_control_defs.specs.Bytes.{Bytes}
 use Rattle.unftp_control_defs.specs.FtpCommand.{User, Pass}
 use Rattle.unftp_control_defs.specs.Events.{FtpEvent, Command, events}
 use Rattle.unftp_control_defs.specs.FtpReply.{FtpReply, IsReadable, reply_as_read}
-use Rattle.unftp_control_defs.specs.Run.{SessionLaw, after, last_state, replies, run_for, said, state_after, text_for, turn, replies_by_event, replies_to}
-use Rattle.unftp_control_defs.specs.Turns.{IsExchange, cut_reads}
+use Rattle.unftp_control_defs.specs.Run.{SessionLaw, after, all_said, ends, last_state, replies, run_for, run_of, said, state_after, text_for, turn, replies_by_event, replies_to}
+use Rattle.unftp_control_defs.specs.Turns.{cut_after_final, cut_reads, is_preliminary_reply}
 use Rattle.unftp_control_defs.proofs.EncodingLemmas.{ReadsBack-encoded, are_plain, are_shown}
-use Rattle.unftp_control_defs.proofs.ExchangeLemmas.{cut-read, cut-replies, length-replies_by_event, replies-all}
+use Rattle.unftp_control_defs.proofs.ExchangeLemmas.{all-append, cut-exchange, cut-read, length-replies_by_event}
 use Rattle.unftp_control_defs.proofs.RunLemmas.{last_state-append, run_of-first}
 use Rattle.unftp_control_login.specs.declared.stage.Stage.{Stage}
 use Rattle.unftp_control_login.specs.declared.stage.Stage.TheVariants.{NoName, Named}
 use Rattle.unftp_control_login.specs.Login.{Accounts, GaveName, IsLoggedIn, is_login, needs_login}
-use Rattle.unftp_control_login.specs.Gate.{Answers, Decision, Gated, LogsIn, PassesOn, closed, decided, decided_by_password, gated_law, is_barred, is_logged_in, is_passed, logged_in, login_needed, name_needed, not_accepted, password_needed, reply_by, state_by}
-use Rattle.unftp_control_login.specs.LoginLimit.{Limited, is_pass, limited_law, limited_to, too_many}
-use Rattle.unftp_control_login.specs.Promises.{AfterLogin, AtEachPlace, IsTurnedAway, LearnsName, MembersAlone, NoFailure, ReachesHandler, SendsPlainExchanges, ServesMembersAlone, guarded, guarded_law}
-use Rattle.unftp_control_login.proofs.LimitStepLemmas.{limited-all, limited-exchange}
+use Rattle.unftp_control_login.specs.Gate.{Answers, Decision, Gated, LogsIn, PassesOn, closed, decided, decided_by_password, gated_law, is_barred, is_logged_in, is_passed, logged_in, login_needed, name_needed, not_accepted, passed_steps, password_needed, reply_by, state_by}
+use Rattle.unftp_control_login.specs.LoginLimit.{Limited, is_pass, limited_law, limited_steps, limited_to, too_many}
+use Rattle.unftp_control_login.specs.Promises.{AfterLogin, AtEachPlace, IsPlainExchange, IsTurnedAway, LearnsName, MembersAlone, NoFailure, ReachesHandler, SendsPlainExchanges, ServesMembersAlone, guarded, guarded_law}
+use Rattle.unftp_control_login.proofs.LimitStepLemmas.{limited-all, limited-alone, limited-exchange, limited-others}
 use Rattle.unftp_control_login.proofs.StageLemmas.{IsLoggedIn-stage, GaveName-stage, gate-after, gate-more, passed_more, logged_in-stage, needs-other, decided-barred, decided-open, stage_after_all}
 use Rattle.unftp_control_login.proofs.FinalLemmas.{IsFinal, final}
 use Rattle.unftp_control_login.proofs.StepLemmas.{said-lifted}
@@ -185,35 +185,134 @@ decided-final accepts stage event =
     (λ _. final login_needed refl) (λ _. tt)
 
 -- and all others those of the handler.
-abbrev IsPlainExchange : List FtpReply → Type 0
-IsPlainExchange sent = IsExchange sent × AllByRecursion IsReadable sent
+module _ {S : Type 0} (law : SessionLaw S) (s : Gated S) (event : FtpEvent) where
+  gate-plain-at : ((passed : FtpEvent) → IsPlainExchange (replies_to law s.inner passed))
+      → IsPlainExchange (replies_to (gated_law law) s event)
+  gate-plain-at plain =
+      by_decision (decided s.accepts s.stage event) refl (decided-final s.accepts s.stage event)
+    where
+      by_decision : (decision : Decision) → decided s.accepts s.stage event ≡ decision
+          → OwnFinal decision → IsPlainExchange (replies_to (gated_law law) s event)
+      by_decision (Answers reply) is own = subst IsPlainExchange
+          (sym (turned law s event {sent = reply ∷ []} is (refl, refl)).0) (own.1, (own.0, tt))
+      by_decision (LogsIn name) is own = subst IsPlainExchange
+          (sym (turned law s event {sent = logged_in ∷ []} is (refl, refl)).0)
+          (own.1, (own.0, tt))
+      by_decision (PassesOn passed) is own = subst IsPlainExchange
+          (sym (turned law s event {sent = replies_to law s.inner passed} is (refl, refl)).0)
+          (plain passed)
 
-gate-plain : {S : Type 0} (law : SessionLaw S) → SendsPlainExchanges law
-    → SendsPlainExchanges (gated_law law)
-gate-plain {S} law (exchanges, sends) = (
-  λ s event. (by_decision s event _ refl (decided-final s.accepts s.stage event)).0,
-  λ s event. (by_decision s event _ refl (decided-final s.accepts s.stage event)).1,
-)
+  -- the handler stays, or has received an event
+  gate-moves : ((after (gated_law law) s event).inner ≡ s.inner)
+      ⊎ ((passed : FtpEvent) × ((after (gated_law law) s event).inner ≡ after law s.inner passed))
+  gate-moves = by_decision (decided s.accepts s.stage event) refl where
+    by_decision : (decision : Decision) → decided s.accepts s.stage event ≡ decision
+        → ((after (gated_law law) s event).inner ≡ s.inner) ⊎ ((passed : FtpEvent)
+        × ((after (gated_law law) s event).inner ≡ after law s.inner passed))
+    by_decision (Answers reply) is =
+        inl (turned law s event {sent = reply ∷ []} is (refl, refl)).1
+    by_decision (LogsIn name) is = inr (
+      Command (User name),
+      (turned law s event {sent = logged_in ∷ []} is (refl, refl)).1,
+    )
+    by_decision (PassesOn passed) is = inr (
+      passed,
+      (turned law s event {sent = replies_to law s.inner passed} is (refl, refl)).1,
+    )
+
+-- What is so of a run is so of what is left of it.
+sends-later : {S : Type 0} (law : SessionLaw S) (s t : S) (event : FtpEvent)
+    → SendsPlainExchanges law s → t ≡ after law s event → law.done t ≡ false
+    → SendsPlainExchanges law t
+sends-later law s t event sends same on = subst (SendsPlainExchanges law) (sym same)
+    (λ before later goes_on. sends (event ∷ before) later
+    ((λ i. (sym (ap law.done same) ∙ on) i || ends law (after law s event) before) ∙ goes_on))
+
+gate-plain : {S : Type 0} (law : SessionLaw S) (s : Gated S) → SendsPlainExchanges law s.inner
+    → SendsPlainExchanges (gated_law law) s
+gate-plain law s sends [] event on =
+    gate-plain-at law s event (λ passed. sends [] passed refl)
+gate-plain law s sends (past ∷ before) event on =
+    let next = after (gated_law law) s past in
+    let goes_on = or_parts ((gated_law law).done next) (ends (gated_law law) next before) on in
+    gate-plain law next (⊎_elim
+    (λ stays. subst (SendsPlainExchanges law) (sym stays) sends)
+    (λ moves. sends-later law s.inner next.inner moves.0 sends moves.1
+    (or_parts next.quit (law.done next.inner) goes_on.0).1)
+    (gate-moves law s past)) before event goes_on.1
+
+-- A limit leaves the gate as it is: it ends no turn early, since the gate has one reply to PASS.
+pass-alone : (accepts : Accounts) (stage : Stage) (event : FtpEvent)
+    → (is_pass event ≡ false) ⊎ (is_passed (decided accepts stage event) ≡ false)
+pass-alone accepts (Named name) (Command (Pass password)) =
+    inr (cond_both (accepts name password) (LogsIn name) (Answers not_accepted)
+    (λ decision. is_passed decision ≡ false) (λ _. refl) (λ _. refl))
+pass-alone accepts stage (Command (Pass password)) = inr refl
+pass-alone accepts stage event = inl refl
+
+limit-moves : {S : Type 0} (law : SessionLaw S) (s : Limited (Gated S)) (event : FtpEvent)
+    → (after (limited_law (gated_law law)) s event).inner ≡ after (gated_law law) s.inner event
+limit-moves {S} law s event = ⊎_elim
+    (λ other. (λ i. (state_after s (limited_steps s.left (other i)
+    (turn (gated_law law) s.inner event))).inner)
+    ∙ limited-others s s.left (turn (gated_law law) s.inner event))
+    (λ kept.
+    let next = (gated_law law).next s.inner event in
+    let alone : (gated_law law).more next ≡ [] =
+    (λ i. cond (kept i) (passed_steps next (law.more next.inner)) []) in
+    (λ i. (state_after s (limited_steps s.left (is_pass event)
+    (((gated_law law).says s.inner event, next) ∷ alone i))).inner)
+    ∙ limited-alone s s.left (is_pass event) ((gated_law law).says s.inner event, next)
+    ∙ (λ i. state_after next (sym alone i)))
+    (pass-alone s.inner.accepts s.inner.stage event)
+
+limit-plain : {S : Type 0} (law : SessionLaw S) (s : Limited (Gated S))
+    → SendsPlainExchanges (gated_law law) s.inner
+    → SendsPlainExchanges (limited_law (gated_law law)) s
+limit-plain law s sends [] event on =
+    let plain = sends [] event refl in (
+      limited-exchange s.left (is_pass event) (turn (gated_law law) s.inner event) plain.0,
+      limited-all IsReadable s.left (is_pass event) (turn (gated_law law) s.inner event)
+          (final too_many refl).0 plain.1,
+    )
+limit-plain law s sends (past ∷ before) event on =
+    let next = after (limited_law (gated_law law)) s past in
+    let goes_on = or_parts ((limited_law (gated_law law)).done next)
+    (ends (limited_law (gated_law law)) next before) on in
+    limit-plain law next (sends-later (gated_law law) s.inner next.inner past sends
+    (limit-moves law s past)
+    (or_parts (next.left == 0) ((gated_law law).done next.inner) goes_on.0).1) before event
+    goes_on.1
+
+-- the replies to the events of a run
+run-plain : {S : Type 0} (law : SessionLaw S) (s : S) (events : List FtpEvent)
+    → SendsPlainExchanges law s
+    → AllByRecursion IsPlainExchange (replies_by_event law s (run_of law s events))
+run-plain law s [] sends = tt
+run-plain law s (event ∷ events) sends =
+    let next = after law s event in
+    (sends [] event refl, by_done (law.done next) refl)
   where
-    by_decision : (s : Gated S) (event : FtpEvent) (decision : Decision)
-        → decided s.accepts s.stage event ≡ decision → OwnFinal decision
-        → IsPlainExchange (replies_to (gated_law law) s event)
-    by_decision s event (Answers reply) is own = subst IsPlainExchange
-        (sym (turned law s event {sent = reply ∷ []} is (refl, refl)).0) (own.1, (own.0, tt))
-    by_decision s event (LogsIn name) is own = subst IsPlainExchange
-        (sym (turned law s event {sent = logged_in ∷ []} is (refl, refl)).0) (own.1, (own.0, tt))
-    by_decision s event (PassesOn passed) is own = subst IsPlainExchange
-        (sym (turned law s event {sent = replies_to law s.inner passed} is (refl, refl)).0)
-        (exchanges s.inner passed, sends s.inner passed)
+    by_done : (done : Bool) → law.done (after law s event) ≡ done
+        → AllByRecursion IsPlainExchange (replies_by_event law (after law s event)
+        (cond done [] (run_of law (after law s event) events)))
+    by_done true is = tt
+    by_done false is = run-plain law (after law s event) events
+        (sends-later law s (after law s event) event sends refl is)
 
-limit-plain : {S : Type 0} (law : SessionLaw S) → SendsPlainExchanges law
-    → SendsPlainExchanges (limited_law law)
-limit-plain law (exchanges, sends) = (
-  λ s event. limited-exchange s.left (is_pass event) (turn law s.inner event)
-      (exchanges s.inner event),
-  λ s event. limited-all IsReadable s.left (is_pass event) (turn law s.inner event)
-      (final too_many refl).0 (sends s.inner event),
-)
+plain-readable : (turns : List (List FtpReply)) → AllByRecursion IsPlainExchange turns
+    → AllByRecursion IsReadable (all_said turns)
+plain-readable [] plain = tt
+plain-readable (turn ∷ turns) plain =
+    all-append IsReadable turn (all_said turns) plain.0.1 (plain-readable turns plain.1)
+
+-- a client that cuts them after each final one has those to each event apart
+plain-cut : (turns : List (List FtpReply)) → AllByRecursion IsPlainExchange turns
+    → cut_after_final (all_said turns) ≡ turns
+plain-cut [] plain = refl
+plain-cut (turn ∷ turns) plain =
+    cut-exchange is_preliminary_reply turn (all_said turns) plain.0.0
+    ∙ ap (λ later. turn ∷ later) (plain-cut turns plain.1)
 
 -- What is read of a part of the replies.
 after-part : (Q : Type 0) (replies : List FtpReply) (read : List (ℕ × List Bytes))
@@ -232,7 +331,7 @@ after-part Q (reply ∷ replies) (one ∷ read) is each =
 
 -- A handler that serves only members, and sends plain exchanges, does so in bytes.
 module _ {S : Type 0} (law : SessionLaw S) (first : S) (accepts : Accounts)
-    (serves : ServesMembersAlone accepts law first) (sends : SendsPlainExchanges law) where
+    (serves : ServesMembersAlone accepts law first) (sends : SendsPlainExchanges law first) where
   after_login : (before : List FtpEvent) (s : S) (events : List FtpEvent)
       (parts : List (List (ℕ × List Bytes))) → last_state law first before ≡ s
       → map (map Some) parts ≡ map (map reply_as_read) (replies_by_event law s events)
@@ -256,14 +355,15 @@ module _ {S : Type 0} (law : SessionLaw S) (first : S) (accepts : Accounts)
       → MembersAlone limit accepts input (text_for limit law first input)
   members-alone limit input =
       let run = run_for limit law first input in
-      let sent = replies-all law IsReadable sends.1 first run in
+      let plain = run-plain law first (events limit input) sends in
+      let sent = plain-readable (replies_by_event law first run) plain in
       let read = filter_map reply_as_read (replies law first run) in
       let reads = ReadsBack-encoded (replies law first run)
       (are_plain (replies law first run) sent) in
       let parts : map (map Some) (cut_reads read)
       ≡ map (map reply_as_read) (replies_by_event law first run) =
       cut-read (replies law first run) read (are_shown (replies law first run) sent)
-      ∙ ap (map (map reply_as_read)) (cut-replies law sends.0 first run) in
+      ∙ ap (map (map reply_as_read)) (plain-cut (replies_by_event law first run) plain) in
       let as_many : length (cut_reads read) ≡ length run =
       sym (length-map (cut_reads read) (map Some)) ∙ ap length parts
       ∙ length-map (replies_by_event law first run) (map reply_as_read)
@@ -279,23 +379,28 @@ module _ {S : Type 0} (law : SessionLaw S) (first : S) (accepts : Accounts)
             (sym same) (after_login [] first run (cut_reads read) refl parts);
       }
 
-guarded-plain : {S : Type 0} (law : SessionLaw S) (failures : Option ℕ) → SendsPlainExchanges law
-    → SendsPlainExchanges (guarded_law failures law)
-guarded-plain law None sends = gate-plain law sends
-guarded-plain law (Some left) sends = limit-plain (gated_law law) (gate-plain law sends)
+guarded-plain : {S : Type 0} (law : SessionLaw S) (accepts : Accounts) (failures : Option ℕ)
+    (inner : S) → SendsPlainExchanges law inner
+    → SendsPlainExchanges (guarded_law failures law) (guarded failures accepts inner)
+guarded-plain law accepts None inner sends = gate-plain law (closed accepts inner) sends
+guarded-plain law accepts (Some left) inner sends =
+    limit-plain law (limited_to left (closed accepts inner))
+    (gate-plain law (closed accepts inner) sends)
 
-pub guarded-members-alone : {S : Type 0} (law : SessionLaw S) → SendsPlainExchanges law
-    → (limit : Option ℕ) (accepts : Accounts) (failures : Option ℕ) (inner : S) (input : Bytes)
+pub guarded-members-alone : {S : Type 0} (law : SessionLaw S) (inner : S)
+    → SendsPlainExchanges law inner
+    → (limit : Option ℕ) (accepts : Accounts) (failures : Option ℕ) (input : Bytes)
     → MembersAlone limit accepts input
     (text_for limit (guarded_law failures law) (guarded failures accepts inner) input)
-guarded-members-alone law sends limit accepts failures inner input =
+guarded-members-alone law inner sends limit accepts failures input =
     members-alone (guarded_law failures law) (guarded failures accepts inner) accepts
-    (guarded_serves-members law accepts failures inner) (guarded-plain law failures sends) limit
-    input
+    (guarded_serves-members law accepts failures inner)
+    (guarded-plain law accepts failures inner sends) limit input
 
-pub limit-members-alone : {S : Type 0} (law : SessionLaw S) → SendsPlainExchanges law
-    → (limit : Option ℕ) (accepts : Accounts) (left : ℕ) (inner : S) (input : Bytes)
+pub limit-members-alone : {S : Type 0} (law : SessionLaw S) (inner : S)
+    → SendsPlainExchanges law inner
+    → (limit : Option ℕ) (accepts : Accounts) (left : ℕ) (input : Bytes)
     → MembersAlone limit accepts input
     (text_for limit (limited_law (gated_law law)) (limited_to left (closed accepts inner)) input)
-limit-members-alone law sends limit accepts left =
-    guarded-members-alone law sends limit accepts (Some left)
+limit-members-alone law inner sends limit accepts left =
+    guarded-members-alone law inner sends limit accepts (Some left)

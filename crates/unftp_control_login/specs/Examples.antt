@@ -1,5 +1,5 @@
 -- What the examples speak of.
-use Rattle.std.specs.Prelude.{◌≡◌, ℕ, ◌+◌, ◌==◌, ◌&&◌, ◌||◌, false, List, [], ◌∷◌, bytes_eq, codes}
+use Rattle.std.specs.Prelude.{◌≡◌, ℕ, ◌+◌, ◌==◌, Bool, ◌&&◌, ◌||◌, if◌then◌else◌, true, false, List, [], ◌∷◌, bytes_eq, codes}
 use Rattle.unftp_control_defs.specs.Bytes.{Bytes}
 use Rattle.unftp_control_defs.specs.FtpCommand.{User, Pass}
 use Rattle.unftp_control_defs.specs.Events.{FtpEvent, Command, out_of_memory}
@@ -67,6 +67,15 @@ silent = as_session (record {
   next = λ s _. s;
   may_fail = λ _ _ fault. fault ≡ out_of_memory;
   done = λ s. s == 9;
+})
+
+-- answers one event, and is then done: it would answer no later one
+abbrev pub answers_once : SessionLaw Bool
+answers_once = as_session (record {
+  says = λ is_over _. if is_over then Nothing else here;
+  next = λ _ _. true;
+  may_fail = λ _ _ fault. fault ≡ out_of_memory;
+  done = λ is_over. is_over;
 })
 
 abbrev pub opened : FtpReply

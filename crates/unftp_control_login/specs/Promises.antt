@@ -9,8 +9,8 @@ use Rattle.unftp_control_defs.specs.Events.{FtpEvent, Command, event_for, exceed
 use Rattle.unftp_control_defs.specs.FtpReply.{FtpReply, IsReadable, reply_as_read}
 use Rattle.unftp_control_defs.specs.Lines.{incomplete_line, lines_of}
 use Rattle.unftp_control_defs.specs.ReplyReader.{AllReplies}
-use Rattle.unftp_control_defs.specs.Run.{SessionLaw, after, at_each, last_state, replies_to, run_for, text_for}
-use Rattle.unftp_control_defs.specs.Turns.{GivesExchanges, SaysOnly, cut_reads}
+use Rattle.unftp_control_defs.specs.Run.{SessionLaw, after, at_each, ends, last_state, replies_to, run_for, text_for}
+use Rattle.unftp_control_defs.specs.Turns.{IsExchange, cut_reads}
 use Rattle.unftp_control_serve.specs.Endings.{Snapshot, RunFailed}
 use Rattle.unftp_control_serve.specs.declared.error.ServeError.{ServeError}
 use Rattle.unftp_control_login.specs.Login.{Accounts, GaveName, IsLoggedIn, needs_login}
@@ -54,9 +54,16 @@ ServesMembersAlone accepts law s = (before : List FtpEvent) (event : FtpEvent)
     → AllByRecursion (λ reply. NoFailure reply → IsLoggedIn accepts before)
     (replies_to law (last_state law s before) event)
 
--- The replies to each event are preliminary ones and then a final one, and each of them is that.
-abbrev pub SendsPlainExchanges : {S : Type 0} → SessionLaw S → Type 0
-SendsPlainExchanges law = GivesExchanges law × SaysOnly IsReadable law
+-- Preliminary replies and then a final one, each of which a client reads as what it is.
+abbrev pub IsPlainExchange : List FtpReply → Type 0
+IsPlainExchange replies = IsExchange replies × AllByRecursion IsReadable replies
+
+-- So are the replies to each event of each run that begins in this state: to any that comes before
+-- the handler is done.
+abbrev pub SendsPlainExchanges : {S : Type 0} → SessionLaw S → S → Type 0
+SendsPlainExchanges law first = (before : List FtpEvent) (event : FtpEvent)
+    → ends law first before ≡ false
+    → IsPlainExchange (replies_to law (last_state law first before) event)
 
 -- The lists are of one length, and this holds at each place: of what the first has before it and at
 -- it, and of what the second has at it.

@@ -20,7 +20,7 @@ ghost use Rattle.unftp_control_login.specs.GateState.{GateCalled};
 ghost use Rattle.unftp_control_login.specs.LimitState.{LimitCalled};
 ghost use Rattle.unftp_control_login.specs.LoginLimit.{EndsWith, failed_in_run, limited_law, limited_to, too_many};
 ghost use Rattle.unftp_control_login.specs.Promises.{AgreeOnAll, AllLookAlike, DifferInPasswords, FailsAlike, IsRefusedLogin, IsTurnedAway, LearnsName, LooksAlike, MembersAlone, NoFailure, PasswordFits, ReachesHandler, SendsPlainExchanges, ServesMembersAlone, gate_calls, limit_calls};
-ghost use Rattle.unftp_control_login.specs.Examples.{anna, anna_and_ben, ben, counting, here, inner_with, login, only_anna, opened, pass, refusing, secret, silent, so_far, transferring, user, wrong};
+ghost use Rattle.unftp_control_login.specs.Examples.{anna, anna_and_ben, answers_once, ben, counting, here, inner_with, login, only_anna, opened, pass, refusing, secret, silent, so_far, transferring, user, wrong};
 
 /// Which events need a login, and which undo one.
 pub fn logins_are_needed()
@@ -151,8 +151,8 @@ pub fn a_gate_has_called()
     ensures passed { GateCalled {T = ℕ} (λ failed. failed) counting (closed only_anna 0)
         (inner_with [] 0 0) (Command Noop) (inner_with (Passes (Command Noop) ∷ []) 0 0) (Ok 0) }
     ensures asked_further { ¬ GateCalled {T = ℕ} (λ failed. failed) counting (closed only_anna 0)
-        (inner_with [] 0 0) (Command Noop) (inner_with (Passes (Command Noop) ∷ AsksFurther ∷ []) 0 0)
-        (Ok 0) }
+        (inner_with [] 0 0) (Command Noop)
+        (inner_with (Passes (Command Noop) ∷ AsksFurther ∷ []) 0 0) (Ok 0) }
     ensures barred { ¬ GateCalled {T = ℕ} (λ failed. failed) counting (closed only_anna 0)
         (inner_with [] 0 0) (Command Pwd) (inner_with (Passes (Command Pwd) ∷ []) 0 0) (Ok 0) }
     ensures failed { (error : RustError) → fault_of error ≡ out_of_memory
@@ -200,8 +200,10 @@ pub fn members_are_served()
         (codes "257 here\r\n") → ⊥ }
     ensures stranger { MembersAlone None only_anna (codes "PWD\r\n") (codes "530 no\r\n") }
     ensures no_event { MembersAlone None only_anna [] (codes "530 no\r\n") → ⊥ }
-    ensures plain { IsReadable (CodeAndMsg 100 (codes "x")) × SendsPlainExchanges counting }
-    ensures nothing_sent { SendsPlainExchanges silent → ⊥ }
+    ensures plain { IsReadable (CodeAndMsg 100 (codes "x")) × SendsPlainExchanges counting 0 }
+    ensures nothing_sent { SendsPlainExchanges silent 0 → ⊥ }
+    ensures answered_once { SendsPlainExchanges answers_once false }
+    ensures over { SendsPlainExchanges answers_once true → ⊥ }
     ensures line_feed { IsReadable (MultiLine 200 (codes "a\n" ∷ [])) → ⊥ }
 {}
 

@@ -48,11 +48,12 @@ pub fn members_alone_are_served<H: Session>()
 {}
 
 /// In bytes, of a handler that gives each event preliminary replies and then a final one, all sent
-/// and plain: whatever the input, a reply in the output that reports no failure, among those to a
-/// command that needs a login, comes only after a USER and a PASS that the accounts accept.
+/// and plain, until it is done: whatever the input, a reply in the output that reports no failure,
+/// among those to a command that needs a login, comes only after a USER and a PASS that the
+/// accounts accept.
 pub fn members_alone_are_served_in_bytes<H: Session>()
-    ensures { (said : List H.Said) → SendsPlainExchanges (H.law said)
-        → (limit : Option ℕ) (accepts : Accounts) (failures : Option ℕ) (inner : H.State)
+    ensures { (said : List H.Said) (inner : H.State) → SendsPlainExchanges (H.law said) inner
+        → (limit : Option ℕ) (accepts : Accounts) (failures : Option ℕ)
         (input : Bytes) → MembersAlone limit accepts input (text_for limit
         (guarded_law failures (H.law said)) (guarded failures accepts inner) input) }
 {}

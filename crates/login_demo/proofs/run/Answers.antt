@@ -40,8 +40,9 @@ returns g c =
             _,
             serves.given,
             serves.written,
-            guarded-members-alone (as_session files_law) SendsPlainExchanges-files (Some 4096)
-                (g.A.Accounts.accepts c.args.accounts) (Some 3) new_session serves.read,
+            guarded-members-alone (as_session files_law) new_session
+                (SendsPlainExchanges-files new_session) (Some 4096)
+                (g.A.Accounts.accepts c.args.accounts) (Some 3) serves.read,
           )) ends.0;
       bound = search rules;
       err = (_, _, ends.1);

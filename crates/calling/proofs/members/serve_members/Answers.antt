@@ -33,9 +33,8 @@ returns g c =
             _,
             serves.given,
             serves.written,
-            limit-members-alone (g.H.Session.law heard) (sends heard) (Some 4096)
-                (g.A.Accounts.accepts c.args.accounts) 3 (g.H.Session.state c.args.handler)
-                serves.read,
+            limit-members-alone (g.H.Session.law heard) (g.H.Session.state c.args.handler)
+                (sends heard) (Some 4096) (g.A.Accounts.accepts c.args.accounts) 3 serves.read,
           )) said.0;
       err = (_, _, _, said.1);
     }

@@ -4,7 +4,7 @@ pub returns-clause-members : goal.returns-clause-members
 returns-clause-members g c =
     let are = c.transfers_are_exchanges.ensures in
     c.serve_members.ensures.members
-    (λ answers. (are.exchanges answers, are.readable answers))
+    (λ answers before event on. (are.exchanges answers _ event, are.readable answers _ event))
 
 pub returns-clause-err : goal.returns-clause-err
 returns-clause-err g c =

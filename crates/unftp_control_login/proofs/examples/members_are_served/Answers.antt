@@ -1,5 +1,6 @@
 use Rattle.std.proofs.Common.{◌≡◌, ◌<◌, ℕ, List, [], ◌∷◌, length, filter_map, take, None, refl, sym, ap, subst, ◌∙◌, arith, codes}
 use Rattle.std.specs.Fmt.{digits}
+use Rattle.std.proofs.lemmas.Bool.{false≢true}
 use Rattle.unftp_control_defs.specs.Bytes.{Bytes, LF}
 use Rattle.unftp_control_defs.specs.FtpCommand.{Pwd}
 use Rattle.unftp_control_defs.specs.FtpReply.{FtpReply, CodeAndMsg, reply_as_read}
@@ -12,6 +13,7 @@ use Rattle.unftp_control_defs.proofs.LineEventLemmas.{events-canonical_line}
 use Rattle.unftp_control_login.specs.Promises.{AfterLogin, AtEachPlace, MembersAlone}
 use Rattle.unftp_control_login.specs.Examples.{here, only_anna}
 use Rattle.unftp_control_login.proofs.ExampleLemmas.{not-logged-in}
+use Rattle.unftp_control_login.proofs.FinalLemmas.{final}
 use Rattle.unftp_control_login.proofs.examples.members_are_served.Goals as goal
 
 -- without a login, the event is answered with no failure
@@ -50,7 +52,14 @@ returns-clause-anyone_served_in_bytes c =
     (omega arith)
 
 pub returns-clause-nothing_sent : goal.returns-clause-nothing_sent
-returns-clause-nothing_sent c = λ sends. (sends.1 0 (Command Pwd)).0
+returns-clause-nothing_sent c = λ sends. (sends [] (Command Pwd) refl).1.0
+
+pub returns-clause-answered_once : goal.returns-clause-answered_once
+returns-clause-answered_once c [] event on = (refl, (final here refl).0, tt)
+returns-clause-answered_once c (past ∷ before) event on = absurd (false≢true (sym on))
+
+pub returns-clause-over : goal.returns-clause-over
+returns-clause-over c = λ sends. (sends [] (Command Pwd) refl).1.0
 
 refused_reply : ReadsBack (codes "530 no\r\n") (CodeAndMsg 530 (codes "no") ∷ [])
 unfolding digits
