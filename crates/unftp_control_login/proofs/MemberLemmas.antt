@@ -290,15 +290,12 @@ run-plain : {S : Type 0} (law : SessionLaw S) (s : S) (events : List FtpEvent)
     → AllByRecursion IsPlainExchange (replies_by_event law s (run_of law s events))
 run-plain law s [] sends = tt
 run-plain law s (event ∷ events) sends =
-    let next = after law s event in
-    (sends [] event refl, by_done (law.done next) refl)
-  where
-    by_done : (done : Bool) → law.done (after law s event) ≡ done
-        → AllByRecursion IsPlainExchange (replies_by_event law (after law s event)
-        (cond done [] (run_of law (after law s event) events)))
-    by_done true is = tt
-    by_done false is = run-plain law (after law s event) events
-        (sends-later law s (after law s event) event sends refl is)
+    let next = after law s event in (
+      sends [] event refl,
+      cond_both (law.done next) [] (run_of law next events)
+          (λ run. AllByRecursion IsPlainExchange (replies_by_event law next run)) (λ _. tt)
+          (λ on. run-plain law next events (sends-later law s next event sends refl on)),
+    )
 
 plain-readable : (turns : List (List FtpReply)) → AllByRecursion IsPlainExchange turns
     → AllByRecursion IsReadable (all_said turns)

@@ -55,7 +55,7 @@ pub returns-clause-nothing_sent : goal.returns-clause-nothing_sent
 returns-clause-nothing_sent c = λ sends. (sends [] (Command Pwd) refl).1.0
 
 pub returns-clause-answered_once : goal.returns-clause-answered_once
-returns-clause-answered_once c [] event on = (refl, (final here refl).0, tt)
+returns-clause-answered_once c [] event on = (refl, ((final here refl).0, tt))
 returns-clause-answered_once c (past ∷ before) event on = absurd (false≢true (sym on))
 
 pub returns-clause-over : goal.returns-clause-over
