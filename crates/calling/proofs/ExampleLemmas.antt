@@ -1,12 +1,10 @@
 -- What the examples share.
-use Rattle.std.proofs.Common.{◌≡◌, ℕ, List, [], ◌∷◌, ◌++◌, Option, append-nil, codes, refl, sym, ap, ◌∙◌}
+use Rattle.std.proofs.Common.{◌≡◌, ℕ, List, [], ◌∷◌, ◌++◌, Option, append-nil, sym, ap, ◌∙◌}
 use Rattle.unftp_control.specs.Bytes.{Bytes}
 use Rattle.unftp_control.specs.Events.{FtpEvent}
 use Rattle.unftp_control.specs.Lines.{IsLine, incomplete_line, lines_of}
 use Rattle.unftp_control.specs.TakingSteps.{TakesEvent}
-use Rattle.unftp_control.specs.ReplyReader.{HasFront, IsPartial}
 use Rattle.unftp_control.proofs.LineLemmas.{Lines-unique, line_first}
-use Rattle.unftp_control.proofs.ReplyLemmas.{FrontReply-front_of, IsPartial-front_of}
 
 -- the lines of a line are that line
 pub lines_of-IsLine : {line : Bytes} → IsLine line → line ∷ [] ≡ lines_of line

@@ -1,4 +1,4 @@
-use Rattle.std.proofs.Common.{◌≡◌, ◌∷◌, [], inl, true, false, None, Some, Ok, Err, codes, refl, subst, sym, ap, ◌∙◌}
+use Rattle.std.proofs.Common.{◌≡◌, [], inl, true, false, None, Some, Ok, Err, codes, refl, subst, sym, ap, ◌∙◌}
 use Rattle.std.specs.List.{concat}
 use Rattle.std.proofs.lemmas.Bool.{false≢true}
 use Rattle.unftp_control.specs.ClientRuns.{asking, client_with}
@@ -24,24 +24,24 @@ record Agrees (before : Client) (input : InputState) (after : Client) (left : In
 
 agreed_by : {before after : Client} {input left : InputState}
     → ReceivesAgreement before input (Ok true) after left → Agrees before input after left
-agreed_by (Ok (Some reply), received, next, agreed, is, so) =
+agreed_by (Ok (Some reply), received, next, (agreed, is, so)) =
     let yes : agreed ≡ true = cc in
     record { taken = reply; received = received; next = next; may = (so.0 yes).1 }
-agreed_by (Ok None, received, next, agreed, is, so) =
+agreed_by (Ok None, received, next, (agreed, is, so)) =
     let yes : agreed ≡ true = cc in absurd (false≢true (so.0 yes).0)
 agreed_by (Err error, received, next, is) = absurd (cc)
 
 refused_by : {before after : Client} {input left : InputState}
     → ReceivesAgreement before input (Ok false) after left → MayBeginTls after
     → after.dialogue ≡ before.dialogue
-refused_by (Ok (Some reply), received, next, agreed, is, so) may =
+refused_by (Ok (Some reply), received, next, (agreed, is, so)) may =
     let no : false ≡ agreed = cc in absurd (false≢true (no ∙ so.1 (refl, may)))
 refused_by (Ok None, received, next, rest) may = next
 refused_by (Err error, received, next, is) may = absurd (cc)
 
 failed_by : {before after : Client} {input left : InputState} {error : ReceiveError}
     → ReceivesAgreement before input (Err error) after left → after.dialogue ≡ before.dialogue
-failed_by (Ok reply, received, next, agreed, is, so) = absurd (cc)
+failed_by (Ok reply, received, next, (agreed, is, so)) = absurd (cc)
 failed_by (Err error, received, next, is) = next
 
 pub returns : goal.returns

@@ -1,4 +1,4 @@
-use Rattle.std.proofs.Common.{◌≡◌, inl, inr, [], ◌∷◌, None, codes, refl, sym, ap, ◌∙◌}
+use Rattle.std.proofs.Common.{◌≡◌, inl, inr, [], None, codes, refl, sym, ap, ◌∙◌}
 use Rattle.unftp_control.specs.Bytes.{Bytes}
 use Rattle.unftp_control.specs.Events.{FtpEvent, Command}
 use Rattle.unftp_control.specs.FtpCommand.{Noop}

@@ -1,10 +1,10 @@
-use Rattle.std.proofs.Common.{◌≡◌, inl, inr, ◌-◌, [], ◌∷◌, ◌++◌, None, Some, bytes_eq, codes, drop, length, lit≤, take, refl, subst, sym, ap, ◌∙◌, arith}
+use Rattle.std.proofs.Common.{◌≡◌, inl, inr, ◌-◌, [], ◌∷◌, ◌++◌, None, bytes_eq, codes, drop, length, lit≤, take, refl, subst, sym, ap, ◌∙◌, arith}
 use Rattle.std.specs.Prelude.{if◌then◌else◌}
 use Rattle.std.specs.Str.{IsTrimAsciiEnd}
 use Rattle.std.proofs.lemmas.Bool.{false≢true}
 use Rattle.std.proofs.lemmas.Str.Ascii.{trim_ascii_end_is}
 use Rattle.unftp_control.specs.Bytes.{Bytes}
-use Rattle.unftp_control.specs.EventMeaning.{event_meant, refuses_length}
+use Rattle.unftp_control.specs.EventMeaning.{refuses_length}
 use Rattle.unftp_control.specs.Events.{FtpEvent, Command, event_for}
 use Rattle.unftp_control.specs.FtpCommand.{TypeCode}
 use Rattle.unftp_control.specs.FtpReply.{encoded}
