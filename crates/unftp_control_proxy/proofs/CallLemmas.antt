@@ -78,9 +78,10 @@ goes_on : (proxy : ProxyState) → waits proxy ≡ false → (proxy.answer ≡ N
     × (nat_le proxy.limits.waiting (server_owes proxy.dialogue) ≡ false)
 goes_on proxy e =
     let full = neither (nat_le proxy.limits.waiting (server_owes proxy.dialogue))
-    (is_some proxy.answer || awaits_tls proxy.dialogue) e in
-    (is_none proxy.answer (neither (is_some proxy.answer) (awaits_tls proxy.dialogue) full.1).0,
-    full.0)
+    (is_some proxy.answer || awaits_tls proxy.dialogue) e in (
+      is_none proxy.answer (neither (is_some proxy.answer) (awaits_tls proxy.dialogue) full.1).0,
+      full.0,
+    )
 
 pub some_line : (line : Bytes) → IsLine line → line ≢ []
 some_line line is_line none =
