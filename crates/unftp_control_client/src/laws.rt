@@ -39,7 +39,10 @@ pub fn calls_are_steps()
         → TakesNextReply before.replies (Err error) after.replies
         → IsNext before.dialogue (Err error) after.dialogue
         → AreSteps before [] after }
-    // What `read_reply` reads is received, also where it takes none or fails.
+{}
+
+/// So are the calls of `read_reply`: what they read is received, also where they take none or fail.
+pub fn reads_are_steps()
     ensures read_reply { (before after : RustClient) (taken : RustReply) (input left : InputState)
         (receives : Receives before.replies input (Ok (Some taken.reply)) after.replies left)
         → IsNext {E = Unit {0}} before.dialogue (Ok (Some taken)) after.dialogue

@@ -1,5 +1,5 @@
 -- What the calls of a proxy ensure says what passes in them.
-use Rattle.std.proofs.Common.{◌≡◌, ◌≢◌, ◌≤◌, ◌==◌, ◌-◌, ◌+◌, ◌||◌, eqb-true, ℕ, suc, Bool, true, false, List, [], ◌∷◌, ◌++◌, length, drop, take, Option, None, Some, Ok, is_some, nat_lt, refl, sym, ap, subst, ◌∙◌, append_assoc, append-nil, arith, unwrap_or}
+use Rattle.std.proofs.Common.{◌≡◌, ◌≢◌, ◌≤◌, ◌==◌, ◌-◌, ◌+◌, ◌||◌, eqb-true, ℕ, Bool, true, false, List, [], ◌∷◌, ◌++◌, length, drop, take, Option, None, Some, Ok, is_some, nat_lt, refl, sym, ap, subst, ◌∙◌, append_assoc, append-nil, arith, unwrap_or}
 use Rattle.std.specs.Prelude.{if◌then◌else◌, nat_le}
 use Rattle.std.specs.List.{concat}
 use Rattle.std.proofs.Math.Seq.{drop-append_seam}
@@ -18,14 +18,14 @@ use Rattle.unftp_control_defs.specs.Turns.{is_preliminary}
 use Rattle.unftp_control_defs.proofs.LineLemmas.{Lines-lines_of}
 use Rattle.unftp_control_read.specs.ReplyDecoding.{PendingReplies}
 use Rattle.unftp_control_write.specs.Forwarding.{IsForwarded}
-use Rattle.unftp_control_client.specs.Dialogue.{after_line, after_reply, awaits_tls, commands_owed, first_owed, is_something, next_to, owes_reply}
+use Rattle.unftp_control_client.specs.Dialogue.{after_line, after_reply, awaits_tls, first_owed, is_something, next_to}
 use Rattle.unftp_control_client.specs.ForwardingSteps.{IsGreeted}
 use Rattle.unftp_control_client.specs.declared.dialogue.Dialogue.{Dialogue}
 use Rattle.unftp_control_client.proofs.ClientStepLemmas.{answered-after_final, answered_after, sent-after_final}
 use Rattle.unftp_control_proxy.specs.ProxyAnswers.{IsReplyOf}
 use Rattle.unftp_control_proxy.specs.ClientLines.{after_front_line, front_line, head_or_none, line_in, shown_line, without_line}
 use Rattle.unftp_control_proxy.specs.ProxyCalls.{AnsweredBy, Fate, GivesAnswer, IsDecidable, IsWholeReply, PassesReply, ProxyState, ReplyBytes, SentAs, TakesReplyBytes, decided, greeting_owed, server_owes, waits}
-use Rattle.unftp_control_proxy.specs.Traffic.{IsSingle, IsTraffic, PassedReply, held_fate, nothing_passed, one_answer, one_line, one_reply}
+use Rattle.unftp_control_proxy.specs.Traffic.{IsSingle, IsTraffic, held_fate, nothing_passed, one_answer, one_line, one_reply}
 use Rattle.unftp_control_proxy.proofs.AnswerLemmas.{read_is_final}
 use Rattle.unftp_control_proxy.proofs.ClientLemmas.{BeginsWithLine, after_front_line-is, front_line-is}
 

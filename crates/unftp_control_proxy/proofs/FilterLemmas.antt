@@ -18,7 +18,7 @@ use Rattle.unftp_control_write.specs.ClearLines.{has_clear_verb, is_clear, is_pl
 use Rattle.unftp_control_proxy.specs.ProxyAnswers.{is_answer}
 use Rattle.unftp_control_proxy.specs.ClientLines.{first_client_line, front_line, head_or_none, line_in}
 use Rattle.unftp_control_proxy.specs.ProxyCalls.{AnsweredBy, Fate, IsAnswerError, IsAppendedError, IsDecidable, MayBeSent, ProxyState, SentAs, decided, stops, waits}
-use Rattle.unftp_control_proxy.specs.Traffic.{DecidedLine, IsSingle, IsTraffic, client_lines, one_line, sent_for}
+use Rattle.unftp_control_proxy.specs.Traffic.{DecidedLine, IsTraffic, client_lines, one_line, sent_for}
 use Rattle.unftp_control_proxy.specs.Filtering.{AreFiltered, Becomes, FilterLaw, IsLineStep, LineStep, Reply, Send, fate_by, filtered, long_line, refused_line, state_then, step_for, told_of}
 use Rattle.unftp_control_proxy.specs.declared.client.ClientLine.{ClientLine}
 use Rattle.unftp_control_proxy.specs.declared.client.ClientLine.TheVariants.{Complete, TooLong}

@@ -1,7 +1,7 @@
 -- Why a line is not sent.
 use Rattle.std.specs.Global.{Vec}
 use Rattle.std.specs.Prelude.{IfErr, OnErr}
-use Rattle.std.proofs.Common.{Result, Ok, Err, OnOk, ◌≡◌, ℕ, [], ◌∷◌, ◌++◌, length, length-append, drop, take, arith, ap, refl, subst, ◌∙◌}
+use Rattle.std.proofs.Common.{Result, Ok, Err, OnOk, ◌≡◌, ℕ, [], ◌∷◌, ◌++◌, length, length-append, drop, take, arith, ap, subst, ◌∙◌}
 use Rattle.std.proofs.Math.Seq.{drop-append_seam, take-append_seam}
 use Rattle.unftp_control_defs.specs.Bytes.{Bytes, LF}
 use Rattle.unftp_control_defs.specs.Forwarded.{forwarded_line}

@@ -1,5 +1,5 @@
 -- What passes a proxy in one call after the other passes in all.
-use Rattle.std.proofs.Common.{◌≡◌, ℕ, suc, Bool, true, false, List, [], ◌∷◌, ◌++◌, length, map, Option, None, Some, refl, sym, ap, subst, ◌∙◌, append_assoc, append-nil, arith}
+use Rattle.std.proofs.Common.{◌≡◌, suc, List, [], ◌∷◌, ◌++◌, length, map, None, refl, sym, ap, subst, ◌∙◌, append_assoc, append-nil, arith}
 use Rattle.std.specs.List.{AllByRecursion, concat, filter}
 use Rattle.std.proofs.lemmas.Grind.{flat_map-append}
 use Rattle.std.proofs.lemmas.List.{map-append}
@@ -16,7 +16,7 @@ use Rattle.unftp_control_client.specs.declared.dialogue.Dialogue.{Dialogue}
 use Rattle.unftp_control_client.specs.declared.dialogue.To.TheVariants.{Greeting}
 use Rattle.unftp_control_client.proofs.ForwardingLemmas.{each_complete, given-exchanges}
 use Rattle.unftp_control_proxy.specs.ProxyCalls.{AnsweredBy, Fate, ProxyState, SentAs, new_proxy}
-use Rattle.unftp_control_proxy.specs.Traffic.{AreAsTheyCame, ChangesNothing, DecidedLine, GivesOwn, GivesReply, IsDecidedLine, IsPassedReply, IsSingle, IsTraffic, KeepsLine, PassedReply, SendsLine, Step, Traffic, bytes_that_came, client_lines, client_replies, fates_in, fates_of, fate_by_step, forwarding_step, forwarding_steps, given_by_step, given_in, held_fate, joined, nothing_passed, passed_by_step, passed_in, sent_by, sent_for}
+use Rattle.unftp_control_proxy.specs.Traffic.{AreAsTheyCame, ChangesNothing, DecidedLine, GivesOwn, GivesReply, IsDecidedLine, IsPassedReply, IsSingle, IsTraffic, KeepsLine, SendsLine, Step, Traffic, bytes_that_came, client_lines, client_replies, fates_in, fates_of, fate_by_step, forwarding_step, forwarding_steps, given_by_step, given_in, held_fate, joined, nothing_passed, passed_by_step, passed_in, sent_by, sent_for}
 use Rattle.unftp_control_proxy.specs.declared.proxy.Limits.{Limits}
 
 -- ---- one after the other

@@ -1,5 +1,5 @@
 -- Whole replies, and those with which a proxy answers a line itself (RFC 959, section 4.2).
-use Rattle.std.specs.Prelude.{⊤, ◌≡◌, ℕ, ◌==◌, ◌&&◌, Bool, true, false, nat_le, nat_lt, not, List, [], length, codes, Option, None, Some, unwrap_or}
+use Rattle.std.specs.Prelude.{◌≡◌, ℕ, ◌==◌, ◌&&◌, Bool, true, false, nat_le, nat_lt, not, List, [], length, codes, unwrap_or}
 use Rattle.std.specs.List.{list_all}
 use Rattle.unftp_control_defs.specs.Bytes.{Bytes, LF}
 use Rattle.unftp_control_defs.specs.FtpReply.{FtpReply, CodeAndMsg, MultiLine, Nothing, reply_as_read}

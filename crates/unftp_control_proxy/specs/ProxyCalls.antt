@@ -1,5 +1,5 @@
 -- What the calls of a proxy do to it, and what they append.
-use Rattle.std.specs.Prelude.{⊤, ◌≡◌, ◌⊎◌, ℕ, ◌+◌, ◌^◌, ◌-◌, ◌<◌, ◌≤◌, ◌||◌, ◌&&◌, Bool, true, false, nat_le, not, List, [], ◌++◌, Option, Some, None, IfSome, Result, Ok, Err, IsTrue, drop, is_some, length, option_map, take}
+use Rattle.std.specs.Prelude.{⊤, ◌≡◌, ◌⊎◌, ℕ, ◌+◌, ◌^◌, ◌-◌, ◌<◌, ◌≤◌, ◌||◌, ◌&&◌, Bool, true, false, nat_le, not, List, ◌++◌, Option, Some, None, IfSome, Result, Ok, Err, IsTrue, drop, is_some, length, option_map, take}
 use Rattle.std.specs.Global.{Vec}
 use Rattle.unftp_control_defs.specs.Bytes.{Bytes}
 use Rattle.unftp_control_defs.specs.Forwarded.{forwarded_line}

@@ -1,6 +1,6 @@
 -- What a relay does: it takes pieces from both sides, lets its filter decide each line, gives each
 -- reply as it came, and holds what each side is to be sent until that is written.
-use Rattle.std.specs.Prelude.{◌≡◌, ◌⊎◌, ℕ, false, [], ◌++◌, None, Err}
+use Rattle.std.specs.Prelude.{◌≡◌, ◌⊎◌, false, [], ◌++◌, None, Err}
 use Rattle.unftp_control_defs.specs.Bytes.{Bytes}
 use Rattle.unftp_control_defs.specs.Lines.{lines_of}
 use Rattle.unftp_control_read.specs.ReplyDecoding.{FindsFirst}

@@ -20,8 +20,8 @@ use unftp_control_serve::Handler;
 
 /// Whatever comes from both sides, in whatever pieces, and in whatever order the calls are made:
 /// the client is given the greeting and one exchange for each of its lines, in order: some
-/// preliminary replies of the server and its final one, or the proxy's own answer (RFC 959, sections
-/// 4.2 and 5.4). No reply is given that is not owed.
+/// preliminary replies of the server and its final one, or the proxy's own answer (RFC 959,
+/// sections 4.2 and 5.4). No reply is given that is not owed.
 pub fn one_exchange_for_each_line()
     ensures exchanges { (limits : RustLimits) (traffic : Traffic) (later : ProxyState)
         → IsTraffic (new_proxy limits) traffic later
@@ -134,14 +134,17 @@ pub fn relayed_by_its_law<F: Filter>()
         (all : RelayState F.State)
         (relays : Relays F.law from_client from_server (new_relay limits s) all)
         → from_client ≡ concat (client_lines relays.traffic.lines) ++ all.proxy.client.bytes }
-    // Calls one after the other are one,
+{}
+
+/// Calls of a relay one after the other are one, and what was written before changes nothing: it
+/// comes before what is held.
+pub fn relays_are_joined<F: Filter>()
     ensures in_turn { (first_of_client more_of_client first_of_server more_of_server : Bytes)
         (before middle after : RelayState F.State)
         → Relays F.law first_of_client first_of_server before middle
         → Relays F.law more_of_client more_of_server middle after
         → Relays F.law (first_of_client ++ more_of_client) (first_of_server ++ more_of_server)
         before after }
-    // and what was written before changes nothing: it comes before what is held.
     ensures written { (from_client from_server to_client to_server : Bytes)
         (before after : RelayState F.State)
         → Relays F.law from_client from_server before after

@@ -26,7 +26,17 @@ pub fn calls_are_traffic()
     ensures next_line { (before later : ProxyState) (found : Bool) (held : ℕ)
         → later ≡ record before { client = record before.client { found = found; held = held } }
         → IsTraffic before nothing_passed later }
-    // What is forwarded means what the client's line means.
+    ensures answered { (before later : ProxyState) (reply : FtpReply)
+        → GivesAnswer before reply later → IsTraffic before (one_answer reply) later }
+    ensures reply { (before later : ProxyState) (came given : ReplyBytes)
+        → PassesReply before came given later
+        → IsTraffic before (one_reply
+        (record { to = next_to before.dialogue; came = came; given = given })) later }
+{}
+
+/// So is a line that is decided. What is forwarded means what the client's line means; another one
+/// is sent as it is, or in place of the client's; or the line is answered.
+pub fn lines_are_traffic()
     ensures forward { (before later : ProxyState) (sent sent_later : Bytes)
         → IsDecidable before → line_in before.client ≢ []
         → IsForwarded (line_in before.client) sent sent_later
@@ -37,7 +47,6 @@ pub fn calls_are_traffic()
         ≡ outcome (front_line before.client.bytes))
         × IsTraffic before (one_line (front_line before.client.bytes)
         (SentAs (forwarded_line (front_line before.client.bytes) command))) later }
-    // A line that is sent as it is, or in place of the client's.
     ensures send { (before later : ProxyState) (sent : Bytes) → IsDecidable before → IsLine sent
         → later ≡ decided before (SentAs sent)
         → IsTraffic before (one_line (front_line before.client.bytes) (SentAs sent)) later }
@@ -46,11 +55,4 @@ pub fn calls_are_traffic()
     ensures answer { (before later : ProxyState) (reply : FtpReply) → IsDecidable before
         → is_answer reply ≡ true → later ≡ decided before (AnsweredBy reply)
         → IsTraffic before (one_line (front_line before.client.bytes) (AnsweredBy reply)) later }
-    // The proxy's own answer, and a reply of the server, or another one in its place.
-    ensures answered { (before later : ProxyState) (reply : FtpReply)
-        → GivesAnswer before reply later → IsTraffic before (one_answer reply) later }
-    ensures reply { (before later : ProxyState) (came given : ReplyBytes)
-        → PassesReply before came given later
-        → IsTraffic before (one_reply
-        (record { to = next_to before.dialogue; came = came; given = given })) later }
 {}

@@ -1,4 +1,4 @@
-use Rattle.std.proofs.Common.{◌≡◌, Ok, codes, arith, ap, refl, sym, true, false, ◌∙◌}
+use Rattle.std.proofs.Common.{◌≡◌, Ok, codes, arith, ap, refl, sym, ◌∙◌}
 use Rattle.std.proofs.lemmas.Bool.{false≢true}
 use Rattle.unftp_control_defs.specs.FtpCommand.{InvalidCommand, Noop}
 use Rattle.unftp_control_defs.specs.Outcome.{outcome}

@@ -1,4 +1,4 @@
-use Rattle.std.proofs.Common.{ap, false, refl, sym, true, ◌≡◌, ◌∙◌}
+use Rattle.std.proofs.Common.{ap, sym, ◌∙◌}
 use Rattle.std.proofs.lemmas.Bool.{false≢true}
 use Rattle.std.proofs.lemmas.Option.{none-some}
 use Rattle.unftp_control_defs.specs.Lines.{lines_of}

@@ -1,4 +1,4 @@
-use Rattle.std.proofs.Common.{◌≡◌, ◌∷◌, [], codes, false, arith, length, refl, subst, sym, true, ◌∙◌}
+use Rattle.std.proofs.Common.{◌≡◌, ◌∷◌, [], codes, arith, length, refl, subst, sym, ◌∙◌}
 use Rattle.std.proofs.lemmas.Bool.{false≢true}
 use Rattle.unftp_control_defs.specs.ReplyReader.{FrontReply, HasFront}
 use Rattle.unftp_control_defs.proofs.ReplyLemmas.{FrontReply-front_of, FrontReply-unique, none_of_nothing}

@@ -1,6 +1,6 @@
 use Rattle.std.proofs.Common.{[], sym, ap, append-nil, ◌∙◌}
-use Rattle.unftp_control_proxy.specs.ProxyCalls.{AnsweredBy, ProxyState, SentAs}
-use Rattle.unftp_control_proxy.proofs.CallLemmas.{decides, forwards, found_only, gives_answer, line_in-is, passes_reply, pieces, some_line}
+use Rattle.unftp_control_proxy.specs.ProxyCalls.{ProxyState}
+use Rattle.unftp_control_proxy.proofs.CallLemmas.{found_only, gives_answer, passes_reply, pieces}
 use Rattle.unftp_control_proxy.proofs.steps.calls_are_traffic.Goals as goal
 
 pub returns : goal.returns
@@ -16,12 +16,6 @@ returns c = record {
       (append-nil before.client.bytes ∙ sym (ap (λ (p : ProxyState). p.client.bytes) is))
       (sym (ap (λ (p : ProxyState). p.server.bytes) is));
   next_line = λ before later found held is. found_only before later found held is;
-  forward = λ before later sent sent_later may some forwarded is.
-      forwards before later sent sent_later may some forwarded is;
-  send = λ before later sent may is_line is. decides before later may (SentAs sent) is_line is;
-  as_it_is = λ proxy may is_line. line_in-is proxy may (some_line _ is_line);
-  answer = λ before later reply may single is.
-      decides before later may (AnsweredBy reply) single is;
   answered = λ before later reply gives. gives_answer before later reply gives;
   reply = λ before later came given passes. passes_reply before later came given passes;
 }

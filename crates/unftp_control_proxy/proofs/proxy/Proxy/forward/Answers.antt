@@ -2,7 +2,7 @@ use Rattle.std.proofs.Common.{◌≡◌, rules, subst}
 use Rattle.std.specs.Prelude.{IfErr}
 use Rattle.unftp_control_defs.specs.Lines.{IsLine}
 use Rattle.unftp_control_proxy.specs.ClientLines.{line_in}
-use Rattle.unftp_control_proxy.specs.ProxyCalls.{IsDecidable, IsForwardingError, send_error}
+use Rattle.unftp_control_proxy.specs.ProxyCalls.{IsForwardingError, send_error}
 use Rattle.unftp_control_proxy.proofs.SendLemmas.{empty_is_no_line, not_forwarded, on_ok, removed_again, send_appended}
 use Rattle.unftp_control_proxy.proofs.proxy.Proxy.forward.Goals as goal
 

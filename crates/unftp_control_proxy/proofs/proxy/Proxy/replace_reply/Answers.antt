@@ -1,6 +1,5 @@
-use Rattle.std.proofs.Common.{Err, false, inr, refl, rules, take, true, ◌≡◌}
+use Rattle.std.proofs.Common.{refl, rules, take}
 use Rattle.unftp_control_read.specs.ReplyDecoding.{BeginsWith}
-use Rattle.unftp_control_client.specs.Dialogue.{owes_reply}
 use Rattle.unftp_control_proxy.specs.ProxyAnswers.{IsReplyOf}
 use Rattle.unftp_control_proxy.proofs.proxy.Proxy.replace_reply.Goals as goal
 
