@@ -1,10 +1,13 @@
+use Rattle.unftp_control.specs.Run.{last_state}
+use Rattle.transferring.specs.Transfers.{state_of, transfers_law}
 use Rattle.calling.proofs.transfers.serve_file.Goals as goal
 
 pub returns-clause-members : goal.returns-clause-members
-returns-clause-members g c =
+returns-clause-members g c = c.serve_members.ensures.members (λ answers before event on.
     let are = c.transfers_are_exchanges.ensures in
-    c.serve_members.ensures.members
-    (λ answers before event on. (are.exchanges answers _ event, are.readable answers _ event))
+    let s = last_state (transfers_law answers)
+    (state_of g.D.DataConnection.answers c.new.result) before in
+    (are.exchanges answers s event, are.readable answers s event))
 
 pub returns-clause-err : goal.returns-clause-err
 returns-clause-err g c =
