@@ -4,7 +4,7 @@
  *
  * made by: tools/generated --write
  * toolchain: rattle-kit-13f logic dac8208d650f15bf
- * sources: sha256 152e8e57d3679fd7ab5234c1519a28d494ca7083ae874187e799d4ead04efa29
+ * sources: sha256 00227e48420c3bd1debdd732d4ec6e58c2b1a8e27e704ee94b7a392aa78f571d
  */
 	.section	.rodata.cst16,"aM",@progbits,16
 	.p2align	4, 0x0
