@@ -12,7 +12,7 @@ use Rattle.unftp_control_client.specs.declared.dialogue.To.TheVariants.{Greeting
 use Rattle.unftp_control_proxy.specs.ClientLines.{first_client_line, front_line, with_piece}
 use Rattle.unftp_control_proxy.specs.ProxyCalls.{AnsweredBy, Fate, GivesAnswer, GivesNext, IsGiven, IsUnasked, PassesReply, ProxyState, ReplyBytes, SentAs, waits}
 use Rattle.unftp_control_proxy.specs.Traffic.{AreAsTheyCame, IsTraffic, client_lines, client_piece, client_replies, fates_in, fates_of, given_in, held_fate, joined, nothing_passed, one_answer, one_line, one_reply, passed_by_step, passed_in, sends_for, sent_by, server_piece}
-use Rattle.unftp_control_proxy.specs.Filtering.{AreFiltered, FilterLaw, filtered}
+use Rattle.unftp_control_proxy.specs.Filtering.{AreFiltered, FilterLaw, IsAsked, filtered}
 use Rattle.unftp_control_proxy.specs.Relaying.{IsEnd, IsSettled, RelayState, Relays, RelaysInPart, after_written, new_relay}
 use Rattle.unftp_control_proxy.specs.declared.proxy.Limits.{Limits}
 use Rattle.unftp_control_proxy.specs.declared.proxy.NextReply.{NextReply}
@@ -359,6 +359,13 @@ module _ (before later : ProxyState) (out out' : Bytes) where
       subst (λ code. IsEnd later (end.Unasked code)) (ap code_in is)
       (subst (λ proxy. IsUnasked proxy other) (sym gives.1) gives.2)
   ends_unasked (Err error) gives code is = absurd (cc)
+
+-- the filter is asked, whatever was looked at
+pub asked_then : (before later : ProxyState) (found : Bool) (held : ℕ)
+    → later ≡ record before { client = record before.client { found = found; held = held } }
+    → IsAsked before → IsAsked later
+asked_then before later found held is asked =
+    subst IsAsked (sym is) (record { goes_on = asked.goes_on; line = asked.line })
 
 pub settled : (before later : ProxyState) (found : Bool) (held : ℕ)
     → later ≡ record before { client = record before.client { found = found; held = held } }

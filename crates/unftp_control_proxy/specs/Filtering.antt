@@ -1,17 +1,20 @@
 -- What a filter decides, line by line, and what follows from that alone.
-use Rattle.std.specs.Prelude.{◌≡◌, ℕ, if◌then◌else◌, nat_le, List, [], ◌∷◌, ◌++◌, Some, Ok, Err, length}
+use Rattle.std.specs.Prelude.{◌≡◌, ℕ, false, if◌then◌else◌, nat_le, List, [], ◌∷◌, ◌++◌, Some, Ok, Err, length}
 use Rattle.std.specs.List.{concat}
 use Rattle.unftp_control_defs.specs.Bytes.{Bytes}
 use Rattle.unftp_control_defs.specs.Events.{exceeds}
 use Rattle.unftp_control_defs.specs.Forwarded.{forwarded_line}
 use Rattle.unftp_control_defs.specs.FtpCommand as FtpCommand
 use Rattle.unftp_control_defs.specs.FtpReply.{FtpReply}
+use Rattle.unftp_control_defs.specs.Lines.{lines_of}
 use Rattle.unftp_control_defs.specs.Outcome.{outcome}
 use Rattle.unftp_control_message.specs.ReplyMeaning.{reply_of}
 use Rattle.unftp_control_write.specs.ClearLines.{is_clear}
 use Rattle.unftp_control_proxy.specs.ProxyAnswers.{answer_reply, is_answer, long_reply, refused_reply}
-use Rattle.unftp_control_proxy.specs.ProxyCalls.{AnsweredBy, Fate, ProxyState, SentAs, decided}
+use Rattle.unftp_control_proxy.specs.ProxyCalls.{AnsweredBy, Fate, ProxyState, SentAs, decided, waits}
+use Rattle.unftp_control_proxy.specs.ClientLines.{first_client_line}
 use Rattle.unftp_control_proxy.specs.Traffic.{DecidedLine, IsSingle, sent_for}
+use Rattle.unftp_control_proxy.specs.declared.client.ClientLine.TheVariants.{Complete}
 use Rattle.unftp_control_proxy.specs.declared.driver.Step.{Step as RustStep}
 use Rattle.unftp_control_proxy.specs.declared.driver.Step.TheVariants as step
 use Rattle.unftp_control_proxy.specs.declared.filter.Verdict.{Verdict}
@@ -103,6 +106,11 @@ module _ {S : Type 0} (law : FilterLaw S) (limit sent : ℕ) where
   AreFiltered s [] s' = s' ≡ s
   AreFiltered s (decided ∷ lines) s' = (decided.fate ≡ fate_of s decided.line)
       × AreFiltered (state_then s decided.line) lines s'
+
+-- The filter is asked of the client's next line: it is complete, within the limit, and may be taken.
+pub record IsAsked (proxy : ProxyState) : Type 0 where
+  pub goes_on : waits proxy ≡ false
+  pub line : first_client_line proxy.client.limit (lines_of proxy.client.bytes) ≡ Some Complete
 
 -- The client's line is taken, with this fate.
 pub record Becomes (fate : Fate) (before : ProxyState) (sent sent' : Bytes)

@@ -1,13 +1,14 @@
 -- What a relay does: it takes pieces from both sides, lets its filter decide each line, gives each
 -- reply as it came, and holds what each side is to be sent until that is written.
-use Rattle.std.specs.Prelude.{◌≡◌, ◌⊎◌, false, [], ◌++◌, None, Err}
+use Rattle.std.specs.Prelude.{◌≡◌, ◌⊎◌, ℕ, false, [], ◌++◌, None, Err}
+use Rattle.std.specs.Global.{Vec}
 use Rattle.unftp_control_defs.specs.Bytes.{Bytes}
 use Rattle.unftp_control_defs.specs.Lines.{lines_of}
 use Rattle.unftp_control_read.specs.ReplyDecoding.{FindsFirst}
 use Rattle.unftp_control_read.specs.declared.errors.NextReplyError.TheVariants as next
 use Rattle.unftp_control_proxy.specs.ClientLines.{first_client_line}
-use Rattle.unftp_control_proxy.specs.Filtering.{AreFiltered, FilterLaw}
-use Rattle.unftp_control_proxy.specs.ProxyCalls.{BeginsTls, IsGiven, IsUnasked, ProxyState, new_proxy, waits}
+use Rattle.unftp_control_proxy.specs.Filtering.{AreFiltered, FilterLaw, IsAsked}
+use Rattle.unftp_control_proxy.specs.ProxyCalls.{BeginsTls, IsGiven, IsNextError, IsUnasked, ProxyState, new_proxy, waits}
 use Rattle.unftp_control_proxy.specs.Traffic.{AreAsTheyCame, IsTraffic, Traffic, passed_in}
 use Rattle.unftp_control_proxy.specs.declared.proxy.Limits.{Limits}
 use Rattle.unftp_control_proxy.specs.declared.relay.End.{End}
@@ -66,6 +67,15 @@ abbrev pub RelaysInPart : {S : Type 0} → FilterLaw S → Bytes → Bytes → R
 RelaysInPart {S} law from_client from_server before after = (s : S)
     × (Relays law from_client from_server before (record after { filter = s })
     ⊎ (record after { filter = s } ≡ before))
+
+-- Why a call fails, other than at the piece: there is no room for what the client is given next; or
+-- the filter is asked, or there is no room for its line.
+abbrev pub LacksRoomToGive : {S : Type 0} → RelayState S → Type 0
+LacksRoomToGive state = (out : Vec ℕ) × (out.items ≡ state.to_client)
+    × IsNextError state.proxy out next.OutOfMemory
+
+abbrev pub FailsSo : {S : Type 0} → RelayState S → Type 0
+FailsSo state = LacksRoomToGive state ⊎ IsAsked state.proxy
 
 -- The client was given all that it can be given, and no line can be taken: nothing passes until more
 -- comes.

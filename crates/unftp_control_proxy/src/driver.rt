@@ -11,7 +11,7 @@ ghost use Rattle.unftp_control_proxy.specs.ProxyAnswers.{answer_reply, is_answer
 ghost use Rattle.unftp_control_proxy.specs.ClientLines.{first_client_line, front_line, line_in};
 ghost use Rattle.unftp_control_proxy.specs.ProxyCalls.{AnsweredBy, Fate, IsDecidable, IsFull, stops, waits};
 ghost use Rattle.unftp_control_proxy.specs.Traffic.{IsTraffic, one_line, sent_for};
-ghost use Rattle.unftp_control_proxy.specs.Filtering.{AreFiltered, Becomes, IsLineStep, LineStep, Reply as ReplyStep, Send, decision_of, fate_by, forward_or_refuse, step_for, told_of};
+ghost use Rattle.unftp_control_proxy.specs.Filtering.{AreFiltered, Becomes, IsAsked, IsLineStep, LineStep, Reply as ReplyStep, Send, decision_of, fate_by, forward_or_refuse, step_for, told_of};
 
 use crate::answer::Answer;
 use crate::client::ClientLine;
@@ -223,9 +223,9 @@ fn decide_line<F: Filter>(
 /// with it what the filter says, and returns whether it did. A line that is too long is answered
 /// with 500, and the filter isn't asked.
 ///
-/// It fails where the filter does, where `to_server` has no room for the line and can't grow, and
-/// where 2^64 - 1 lines were sent. No line is then taken; but the filter may have moved on: the
-/// session is to end.
+/// It fails only where the filter is asked: where that fails, where `to_server` has no room for the
+/// line and can't grow, and where 2^64 - 1 lines were sent. No line is then taken; but the filter
+/// may have moved on: the session is to end.
 pub fn filter_line<F: Filter>(
     proxy: &mut Proxy,
     alloc: Global,
@@ -241,6 +241,7 @@ pub fn filter_line<F: Filter>(
     ensures waits { result ≡ Ok false → waits proxy.old ≡ false
         → first_client_line proxy.old.client.limit (lines_of proxy.old.client.bytes) ≡ None }
     ensures none { result ≡ Ok false → F.state filter.new ≡ F.state filter.old }
+    ensures fails { OnErr result (IsAsked proxy.old) }
     ensures not_taken { result ≢ Ok true → (proxy.new ≡ record proxy.old {
       client = record proxy.old.client {
         found = proxy.new.client.found;

@@ -15,7 +15,7 @@ ghost use Rattle.unftp_control_proxy.specs.ProxyAnswers.{IsFinalReply, is_answer
 ghost use Rattle.unftp_control_proxy.specs.ClientLines.{after_front_line, front_line, shown_line};
 ghost use Rattle.unftp_control_proxy.specs.ProxyCalls.{AnsweredBy, Fate, GivesNext, GivesOther, IsDecidable, IsForwardingError, IsGiven, IsReplaceError, IsUnclearError, IsUnsent, MayBeSent, ProxyState, ReplyBytes, SentAs, decided, is_due, new_proxy, server_owes, stops, waits};
 ghost use Rattle.unftp_control_proxy.specs.Traffic.{ChangesNothing, GivesOwn, GivesReply, SendsLine, client_replies, fates_in, given_in, one_line, one_reply};
-ghost use Rattle.unftp_control_proxy.specs.Filtering.{AsItIs, Becomes, Forward, Instead, Reply, Send, fate_by, long_line, refused_line, step_for, told_of};
+ghost use Rattle.unftp_control_proxy.specs.Filtering.{AsItIs, Becomes, Forward, Instead, IsAsked, Reply, Send, fate_by, long_line, refused_line, step_for, told_of};
 ghost use Rattle.unftp_control_proxy.specs.Relaying.{IsEnd, IsSettled};
 ghost use Rattle.unftp_control_proxy.specs.declared.errors.ReplaceError.TheVariants as ReplaceError;
 ghost use Rattle.unftp_control_proxy.specs.declared.errors.SendError.TheVariants as SendError;
@@ -221,6 +221,15 @@ pub fn relays_settle()
     ensures not_given { (proxy : ProxyState) → is_due proxy ≡ true → ¬ IsGiven proxy }
     ensures line_left { (proxy : ProxyState) → waits proxy ≡ false
         → proxy.client.bytes ≡ codes "NOOP\r\n" → ¬ IsSettled proxy }
+    ensures asked { (limits : RustLimits) → let proxy : ProxyState =
+        new_proxy (record limits { line = 6; waiting = 2 }) in IsAsked (record proxy {
+          client = record proxy.client { bytes = codes "NOOP\r\n" };
+        }) }
+    ensures too_long { (limits : RustLimits) → let proxy : ProxyState =
+        new_proxy (record limits { line = 5; waiting = 2 }) in ¬ IsAsked (record proxy {
+          client = record proxy.client { bytes = codes "NOOP\r\n" };
+        }) }
+    ensures waiting { (proxy : ProxyState) → waits proxy ≡ true → ¬ IsAsked proxy }
     ensures refused { (proxy : ProxyState) → proxy.dialogue
         ≡ after_reply (after_line (codes "AUTH TLS\r\n") (after_reply at_start 220)) 502
         → ¬ IsEnd proxy End.Tls }

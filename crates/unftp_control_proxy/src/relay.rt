@@ -1,8 +1,7 @@
 //! A proxy with its filter.
-ghost use Rattle.std.specs.Global.{Vec};
-ghost use Rattle.std.specs.Prelude.{◌≡◌, ◌<◌, ◌+◌, ◌≤◌, ℕ, [], None, Ok, false, IfOk, IfSome, OnErr, OnOk, length};
-ghost use Rattle.unftp_control_proxy.specs.ProxyCalls.{IsGiven, IsNextError, waits};
-ghost use Rattle.unftp_control_proxy.specs.Relaying.{IsEnd, IsSettled, Relays, RelaysInPart, new_relay, relay_state_of};
+ghost use Rattle.std.specs.Prelude.{◌≡◌, ◌⊎◌, ◌<◌, ◌+◌, ◌≤◌, [], None, Ok, false, IfOk, IfSome, OnErr, OnOk, length};
+ghost use Rattle.unftp_control_proxy.specs.ProxyCalls.{IsGiven, waits};
+ghost use Rattle.unftp_control_proxy.specs.Relaying.{FailsSo, IsEnd, IsSettled, LacksRoomToGive, Relays, RelaysInPart, new_relay, relay_state_of};
 
 use crate::driver::filter_line;
 use crate::filter::Filter;
@@ -55,8 +54,9 @@ impl<F: Filter + Drop> Relay<F> {
     /// Takes a piece of what the client sent, and lets pass all that can: appends to `to_server`
     /// and `to_client` what each is to be sent. Returns why nothing more passes, if that is so.
     ///
-    /// When out of memory, the session is to end, since the filter may have moved on: what was
-    /// appended may be sent.
+    /// It fails where a buffer has no room for the piece, for what is given or for what is sent, and
+    /// can't grow; and where the filter fails. The session is then to end, since the filter may have
+    /// moved on: what was appended may be sent.
     pub fn from_client(&mut self, alloc: Global, piece: &[u8]) -> Result<Option<End>, AllocError>
         ensures ok { OnOk result (Relays F.law piece.now []
             (relay_state_of F.state self.old) (relay_state_of F.state self.new)) }
@@ -67,6 +67,8 @@ impl<F: Filter + Drop> Relay<F> {
             → self.new.proxy.client.held < self.new.proxy.client.limit }
         ensures err { OnErr result (RelaysInPart F.law piece.now []
             (relay_state_of F.state self.old) (relay_state_of F.state self.new)) }
+        ensures fails { OnErr result
+            ((¬ (piece.now ≡ [])) ⊎ FailsSo (relay_state_of F.state self.new)) }
     {
         self.proxy.from_client(piece)?;
         self.pass_all(alloc)
@@ -83,6 +85,8 @@ impl<F: Filter + Drop> Relay<F> {
             → self.new.proxy.client.held < self.new.proxy.client.limit }
         ensures err { OnErr result (RelaysInPart F.law [] piece.now
             (relay_state_of F.state self.old) (relay_state_of F.state self.new)) }
+        ensures fails { OnErr result
+            ((¬ (piece.now ≡ [])) ⊎ FailsSo (relay_state_of F.state self.new)) }
     {
         self.proxy.from_server(piece)?;
         self.pass_all(alloc)
@@ -100,6 +104,7 @@ impl<F: Filter + Drop> Relay<F> {
             → self.new.proxy.client.held < self.new.proxy.client.limit }
         ensures err { OnErr result (RelaysInPart F.law [] []
             (relay_state_of F.state self.old) (relay_state_of F.state self.new)) }
+        ensures fails { OnErr result (FailsSo (relay_state_of F.state self.new)) }
     {
         loop {
             if let Some(end) = self.give_replies()? {
@@ -121,8 +126,7 @@ impl<F: Filter + Drop> Relay<F> {
             (relay_state_of F.state self.old) (relay_state_of F.state self.new) }
         ensures client { self.new.proxy.client ≡ self.old.proxy.client }
         ensures given { result ≡ Ok None → IsGiven self.new.proxy }
-        ensures memory { OnErr result ((out : Vec ℕ) × (out.items ≡ self.new.to_client.items)
-            × IsNextError self.new.proxy out NextReplyError.OutOfMemory) }
+        ensures memory { OnErr result (LacksRoomToGive (relay_state_of F.state self.new)) }
         ensures ended { IfOk result (λ ended. IfSome ended (λ end. IsEnd self.new.proxy end)) }
     {
         loop {

@@ -1,4 +1,4 @@
-use Rattle.std.proofs.Common.{ap, sym, ◌∙◌}
+use Rattle.std.proofs.Common.{ap, refl, sym, ◌∙◌}
 use Rattle.std.proofs.lemmas.Bool.{false≢true}
 use Rattle.std.proofs.lemmas.Option.{none-some}
 use Rattle.unftp_control_defs.specs.Lines.{lines_of}
@@ -15,6 +15,9 @@ returns c = record {
       let none = settled.no_line goes_on in
       let first = ap (λ bytes. first_client_line proxy.client.limit (lines_of bytes)) bytes in
       none-some _ (sym none ∙ first);
+  asked = λ limits. record { goes_on = refl; line = refl };
+  too_long = λ limits asked. let e = asked.line in absurd (cc);
+  waiting = λ proxy waits asked. absurd (false≢true (sym asked.goes_on ∙ waits));
   refused = λ proxy is end.
       absurd (false≢true (sym (ap (λ (d : Dialogue). d.agreed) is) ∙ end.agreed));
   agreed = λ proxy is. record {

@@ -1,6 +1,6 @@
-use Rattle.std.proofs.Common.{◌≡◌, ◌≢◌, ◌∙◌, None, Ok, ap, arith, inl, refl, rules, sym, true, false}
+use Rattle.std.proofs.Common.{◌≡◌, ◌≢◌, ◌∙◌, None, Ok, ap, arith, inl, inr, refl, rules, sym, true, false}
 use Rattle.unftp_control_proxy.specs.Relaying.{relay_state_of}
-use Rattle.unftp_control_proxy.proofs.RelayLemmas.{on_err, relays_in_turn, relays_line, relays_none, relays_nothing, settled}
+use Rattle.unftp_control_proxy.proofs.RelayLemmas.{asked_then, on_err, relays_in_turn, relays_line, relays_none, relays_nothing, settled}
 use Rattle.unftp_control_proxy.proofs.relay.Relay.pass_all.Goals as goal
 
 pub loop-end-init : goal.loop-end-init
@@ -34,6 +34,13 @@ returns-in_err-filter_line-clause-err g c =
           (relays_none g.F.Filter.law (relay_state_of g.F.Filter.state c.give_replies.new.self)
           c.filter_line.new.proxy _ c.filter_line.new.to_server.items _ _ same.0 same.1 refl)),
     )
+
+pub returns-in_err-filter_line-clause-fails : goal.returns-in_err-filter_line-clause-fails
+returns-in_err-filter_line-clause-fails g c =
+    let not_taken : c.filter_line.result ≢ Ok true = λ is. let e = sym c.in_err-filter_line.was ∙ is in absurd (cc) in
+    on_err c.from_residual-in_err-filter_line.result (inr (asked_then
+    c.give_replies.new.self.proxy c.filter_line.new.proxy _ _
+    (c.filter_line.ensures.not_taken not_taken).0 c.in_err-filter_line.ensures.fails))
 
 pub returns-then-not-branch-clause-ok : goal.returns-then-not-branch-clause-ok
 returns-then-not-branch-clause-ok g c =
