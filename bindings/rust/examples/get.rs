@@ -18,10 +18,11 @@ const REPLY_LIMIT: usize = 16_384;
 
 type Outcome<T> = Result<T, Box<dyn Error>>;
 
-/// A reply: its code, and its first line.
+/// A reply: its code, its first line, and whether another to the same follows.
 struct Answer {
     code: u16,
     text: String,
+    is_preliminary: bool,
 }
 
 impl Answer {
@@ -53,7 +54,8 @@ impl Control {
     fn received_reply(&mut self) -> Outcome<Option<Answer>> {
         let Some(taken) = self.client.next_reply()? else { return Ok(None) };
         let line = taken.reply.lines().next().unwrap_or_default();
-        let answer = Answer { code: taken.reply.code(), text: printable(line) };
+        let is_preliminary = taken.reply.is_preliminary();
+        let answer = Answer { code: taken.reply.code(), text: printable(line), is_preliminary };
         if taken.to != To::Nothing {
             return Ok(Some(answer));
         }
@@ -82,7 +84,7 @@ impl Control {
     fn final_reply(&mut self) -> Outcome<Answer> {
         loop {
             let answer = self.reply()?;
-            if answer.code >= 200 {
+            if !answer.is_preliminary {
                 return Ok(answer);
             }
         }

@@ -21,7 +21,8 @@ pub enum To {
 pub struct ClientReply<'a> {
     /// What it is to.
     pub to: To,
-    /// What was received. Where its code is from 100 to 199, another reply to the same follows.
+    /// What was received. Where it is [preliminary](ReceivedReply::is_preliminary), another reply
+    /// to the same follows.
     pub reply: ReceivedReply<'a>,
 }
 

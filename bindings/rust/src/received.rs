@@ -24,6 +24,12 @@ impl ReceivedReply<'_> {
         self.code
     }
 
+    /// Whether another reply to the same follows: its code is from 100 to 199 (RFC 959, section
+    /// 4.2.1).
+    pub fn is_preliminary(&self) -> bool {
+        matches!(self.code, 100..=199)
+    }
+
     /// All its bytes, with the codes and the line ends.
     pub fn bytes(&self) -> &[u8] {
         &self.bytes

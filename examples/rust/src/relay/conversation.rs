@@ -322,7 +322,7 @@ impl Conversation {
 
     fn take_reply(&mut self, reply: ReceivedReply<'static>) -> Result<(), End> {
         let Some(asked) = self.asked.front_mut() else { return Err(End::Silent) };
-        if matches!(reply.code(), 100..=199) {
+        if reply.is_preliminary() {
             self.to_client.extend_from_slice(reply.bytes());
             asked.exchange.note(Answer::Received(reply));
             return Ok(());

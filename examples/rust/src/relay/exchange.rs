@@ -108,7 +108,8 @@ impl Exchange {
     /// Notes a reply. Of preliminary ones only the first few are kept, and the others counted.
     pub fn note(&mut self, reply: Answer) {
         self.took = self.began.elapsed();
-        if matches!(reply.code(), 100..=199) && self.replies.len() >= MOST_PRELIMINARY {
+        let is_preliminary = matches!(&reply, Answer::Received(reply) if reply.is_preliminary());
+        if is_preliminary && self.replies.len() >= MOST_PRELIMINARY {
             self.omitted += 1;
             return;
         }
