@@ -3,80 +3,162 @@ use crate::error::Error;
 use crate::ffi;
 use crate::received::ReceivedReply;
 use crate::reply_decoder::{ReplyDecoder, REPLY_LIMIT};
+use std::collections::VecDeque;
+use std::error;
+use std::fmt::{self, Debug, Display, Formatter};
 
-/// What a reply is to.
+/// What a reply is to. [`Client::next_reply`] names a command by its place, and
+/// [`Client::next_reply_with`] by its value.
 #[derive(Clone, Copy, Debug, PartialEq, Eq, Hash)]
-pub enum To {
+pub enum To<V = u64> {
     /// The connection: the server greets the client (RFC 959, section 5.4).
     Greeting,
-    /// The command of this place among all that were sent. The first one has place 0.
-    Command(u64),
+    /// A command: its place among all that were sent, of which the first one has place 0, or its
+    /// [`ReplyValue`].
+    Command(V),
     /// Nothing: no reply was owed. A server may say 421 so before it closes the connection.
     Nothing,
+}
+
+impl<V> To<V> {
+    pub(crate) fn map<W>(self, change: impl FnOnce(V) -> W) -> To<W> {
+        match self {
+            To::Greeting => To::Greeting,
+            To::Command(value) => To::Command(change(value)),
+            To::Nothing => To::Nothing,
+        }
+    }
+}
+
+/// The value of the command that a reply is to.
+#[derive(Debug, PartialEq, Eq)]
+pub enum ReplyValue<'a, T> {
+    /// The reply is [preliminary](ReceivedReply::is_preliminary), and the client keeps the value.
+    Preliminary(&'a mut T),
+    /// The reply is the final one, and the client has the value no more.
+    Final(T),
 }
 
 /// A reply that a client has received, and what it is to.
 #[derive(Clone, Debug, PartialEq, Eq)]
 #[non_exhaustive]
-pub struct ClientReply<'a> {
+pub struct ClientReply<'a, V = u64> {
     /// What it is to.
-    pub to: To,
+    pub to: To<V>,
     /// What was received. Where it is [preliminary](ReceivedReply::is_preliminary), another reply
     /// to the same follows.
     pub reply: ReceivedReply<'a>,
 }
 
-impl ClientReply<'_> {
-    /// The same reply, copied where it is borrowed.
-    pub fn into_owned(self) -> ClientReply<'static> {
+impl<V> ClientReply<'_, V> {
+    /// The same reply, whose bytes are copied where they are borrowed.
+    pub fn into_owned(self) -> ClientReply<'static, V> {
         ClientReply { to: self.to, reply: self.reply.into_owned() }
     }
 }
 
-/// How far the dialogue with a server has come.
-#[derive(Clone, Debug, Default)]
-pub(crate) struct Dialogue(ffi::Client);
+/// Why a line was not sent, and the value that was given with it. `?` turns it into the [`Error`],
+/// whose text it has.
+#[derive(Clone, Copy, PartialEq, Eq)]
+#[non_exhaustive]
+pub struct SendError<T> {
+    /// Why the line was not sent.
+    pub error: Error,
+    /// The value that was given with it.
+    pub value: T,
+}
 
-impl Dialogue {
-    /// Notes a line that is sent: its place.
-    pub(crate) fn line(&mut self, line: &[u8]) -> Result<u64, Error> {
-        match ffi::client_line(&mut self.0, line) {
-            (ffi::DONE, place) => Ok(place),
-            (ffi::NO_LINE, _) => Err(Error::NotALine),
-            (ffi::INVALID_ARGUMENT, _) => Err(Error::TooManyCommands),
+/// Shows the error, and nothing of the value.
+impl<T> Debug for SendError<T> {
+    fn fmt(&self, f: &mut Formatter<'_>) -> fmt::Result {
+        f.debug_struct("SendError").field("error", &self.error).finish_non_exhaustive()
+    }
+}
+
+impl<T> Display for SendError<T> {
+    fn fmt(&self, f: &mut Formatter<'_>) -> fmt::Result {
+        Display::fmt(&self.error, f)
+    }
+}
+
+impl<T> error::Error for SendError<T> {}
+
+impl<T> From<SendError<T>> for Error {
+    fn from(unsent: SendError<T>) -> Error {
+        unsent.error
+    }
+}
+
+/// How far the dialogue with a server has come.
+#[derive(Clone, Debug)]
+pub(crate) struct Dialogue<T = ()> {
+    state: ffi::Client,
+    /// The value of each line that is owed its final reply, in order. Only `line` adds one, and only
+    /// `reply` takes one.
+    values: VecDeque<T>,
+}
+
+impl<T> Dialogue<T> {
+    /// Nothing was sent or received.
+    pub(crate) fn new() -> Dialogue<T> {
+        Dialogue { state: ffi::Client::default(), values: VecDeque::new() }
+    }
+
+    /// Notes a line that is sent, with its value: the line's place. At an error nothing is noted.
+    pub(crate) fn line(&mut self, line: &[u8], value: T) -> Result<u64, SendError<T>> {
+        if self.values.try_reserve(1).is_err() {
+            return Err(SendError { error: Error::OutOfMemory, value });
+        }
+        let error = match ffi::client_line(&mut self.state, line) {
+            (ffi::DONE, place) => {
+                self.values.push_back(value);
+                return Ok(place);
+            }
+            (ffi::NO_LINE, _) => Error::NotALine,
+            (ffi::INVALID_ARGUMENT, _) => Error::TooManyCommands,
             (status, _) => unreachable!("unftp_client_line leaves no status {status}"),
+        };
+        Err(SendError { error, value })
+    }
+
+    /// Notes a reply, and says what it is to: a line's place, and its value.
+    pub(crate) fn reply(&mut self, code: u16) -> To<(u64, ReplyValue<'_, T>)> {
+        match ffi::client_reply(&mut self.state, u32::from(code)) {
+            (ffi::TO_GREETING, _) => To::Greeting,
+            (ffi::TO_COMMAND, place) => To::Command((place, self.replied_value())),
+            (ffi::TO_NOTHING, _) => To::Nothing,
+            (to, _) => unreachable!("`to_number` of unftp_client_reply gives no {to}"),
         }
     }
 
-    /// Notes a reply, and says what it is to.
-    pub(crate) fn reply<'a>(&mut self, reply: ReceivedReply<'a>) -> ClientReply<'a> {
-        let to = match ffi::client_reply(&mut self.0, u32::from(reply.code())) {
-            (ffi::TO_GREETING, _) => To::Greeting,
-            (ffi::TO_COMMAND, place) => To::Command(place),
-            (ffi::TO_NOTHING, _) => To::Nothing,
-            (to, _) => unreachable!("`to_number` of unftp_client_reply gives no {to}"),
+    /// The value of the line to which the last reply is.
+    fn replied_value(&mut self) -> ReplyValue<'_, T> {
+        // a final reply leaves one line less that is owed one
+        let value = match self.owed() < self.values.len() as u64 {
+            true => self.values.pop_front().map(ReplyValue::Final),
+            false => self.values.front_mut().map(ReplyValue::Preliminary),
         };
-        ClientReply { to, reply }
+        value.expect("each line that is owed its final reply has a value")
     }
 
     /// Whether the greeting is complete.
     pub(crate) fn is_greeted(&self) -> bool {
-        self.0.greeted != 0
+        self.state.greeted != 0
     }
 
     /// How many lines were sent.
     pub(crate) fn sent(&self) -> u64 {
-        self.0.sent
+        self.state.sent
     }
 
     /// How many lines are owed their final reply.
     pub(crate) fn owed(&self) -> u64 {
-        ffi::client_owed(&self.0)
+        ffi::client_owed(&self.state)
     }
 
     /// Whether TLS may begin, where so many bytes are pending.
     pub(crate) fn may_begin_tls(&self, pending: usize) -> bool {
-        ffi::client_may_begin_tls(&self.0, pending)
+        ffi::client_may_begin_tls(&self.state, pending)
     }
 }
 
@@ -111,21 +193,49 @@ impl Dialogue {
 /// assert_eq!((client.is_greeted(), client.owed()), (true, 1));
 /// # Ok::<(), unftp_control::Error>(())
 /// ```
+///
+/// # Values
+///
+/// A client may keep a value of the caller's for each command: what the reply is wanted for, say. It
+/// comes with each reply to the command, and leaves the client with the final one.
+///
+/// ```
+/// use unftp_control::{Client, Command, ReplyValue, To};
+///
+/// let mut client = Client::with_values();
+/// let mut output = Vec::new();
+/// for path in ["a.txt", "b.txt", "c.txt"] {
+///     client.send_with(&Command::Size { file: path.into() }, path, &mut output)?;
+/// }
+/// assert_eq!(output, b"SIZE a.txt\r\nSIZE b.txt\r\nSIZE c.txt\r\n");
+///
+/// client.receive(b"220 Ready\r\n213 5\r\n550 No such file\r\n")?;
+/// let mut codes = Vec::new();
+/// while let Some(reply) = client.next_reply_with()? {
+///     if let To::Command(ReplyValue::Final(path)) = reply.to {
+///         codes.push((path, reply.reply.code()));
+///     }
+/// }
+/// assert_eq!(codes, [("a.txt", 213), ("b.txt", 550)]);
+/// assert!(client.values().eq(&["c.txt"]));
+/// # Ok::<(), unftp_control::Error>(())
+/// ```
 #[derive(Clone, Debug)]
-pub struct Client {
+pub struct Client<T = ()> {
     replies: ReplyDecoder,
-    dialogue: Dialogue,
+    dialogue: Dialogue<T>,
 }
 
+/// A client that keeps no values.
 impl Client {
     /// Nothing was sent or received. A reply may have [`REPLY_LIMIT`] bytes.
     pub fn new() -> Client {
-        Client::with_limit(REPLY_LIMIT)
+        Client::with_values()
     }
 
     /// The same with another limit; 0 is none.
     pub fn with_limit(limit: usize) -> Client {
-        Client { replies: ReplyDecoder::with_limit(limit), dialogue: Dialogue::default() }
+        Client::with_limit_and_values(limit)
     }
 
     /// Appends the line of the command, which the caller sends, and returns the command's place. It
@@ -137,7 +247,7 @@ impl Client {
     /// [`Error::NoLine`] where no line is read as this command, [`Error::OutOfMemory`] and
     /// [`Error::TooManyCommands`]. Nothing is then appended, and nothing is owed for it.
     pub fn send(&mut self, command: &Command<'_>, output: &mut Vec<u8>) -> Result<u64, Error> {
-        self.send_line(&command.to_line()?, output)
+        Ok(self.send_with(command, (), output)?)
     }
 
     /// Appends a line as it is, for what no [`Command`] says, as `TYPE A` or `OPTS MLST size`, and
@@ -149,8 +259,66 @@ impl Client {
     /// second line is sent with the first, [`Error::OutOfMemory`] and [`Error::TooManyCommands`].
     /// Nothing is then appended, and nothing is owed for it.
     pub fn send_line(&mut self, line: &[u8], output: &mut Vec<u8>) -> Result<u64, Error> {
-        output.try_reserve(line.len()).map_err(|_| Error::OutOfMemory)?;
-        let place = self.dialogue.line(line)?;
+        Ok(self.send_line_with(line, (), output)?)
+    }
+
+    /// Takes the first reply of the pending bytes, with what it is to; `None` where it is not
+    /// complete.
+    ///
+    /// # Errors
+    ///
+    /// [`Error::ReplyTooLong`] and [`Error::MalformedReply`], as
+    /// [`ReplyDecoder::next_reply`]. All bytes stay pending, and what is owed is as before.
+    pub fn next_reply(&mut self) -> Result<Option<ClientReply<'_>>, Error> {
+        let Some(reply) = self.replies.next_reply()? else { return Ok(None) };
+        let to = self.dialogue.reply(reply.code()).map(|(place, _)| place);
+        Ok(Some(ClientReply { to, reply }))
+    }
+}
+
+impl<T> Client<T> {
+    /// As [`new`](Client::new), of a client that keeps a value for each command.
+    pub fn with_values() -> Client<T> {
+        Client::with_limit_and_values(REPLY_LIMIT)
+    }
+
+    /// As [`with_limit`](Client::with_limit), of a client that keeps a value for each command.
+    pub fn with_limit_and_values(limit: usize) -> Client<T> {
+        Client { replies: ReplyDecoder::with_limit(limit), dialogue: Dialogue::new() }
+    }
+
+    /// As [`send`](Client::send), of a command with a value.
+    ///
+    /// # Errors
+    ///
+    /// Those of [`send`](Client::send), each with the value.
+    pub fn send_with(
+        &mut self,
+        command: &Command<'_>,
+        value: T,
+        output: &mut Vec<u8>,
+    ) -> Result<u64, SendError<T>> {
+        match command.to_line() {
+            Ok(line) => self.send_line_with(&line, value, output),
+            Err(error) => Err(SendError { error, value }),
+        }
+    }
+
+    /// As [`send_line`](Client::send_line), of a line with a value.
+    ///
+    /// # Errors
+    ///
+    /// Those of [`send_line`](Client::send_line), each with the value.
+    pub fn send_line_with(
+        &mut self,
+        line: &[u8],
+        value: T,
+        output: &mut Vec<u8>,
+    ) -> Result<u64, SendError<T>> {
+        if output.try_reserve(line.len()).is_err() {
+            return Err(SendError { error: Error::OutOfMemory, value });
+        }
+        let place = self.dialogue.line(line, value)?;
         output.extend_from_slice(line);
         Ok(place)
     }
@@ -164,16 +332,53 @@ impl Client {
         self.replies.push(bytes)
     }
 
-    /// Takes the first reply of the pending bytes, with what it is to; `None` where it is not
-    /// complete.
+    /// As [`next_reply`](Client::next_reply), with the value of the command that the reply is to: at
+    /// a preliminary reply it is borrowed, and at the final one it is the caller's again.
+    ///
+    /// ```
+    /// use unftp_control::{Client, Command, ReplyValue, To};
+    ///
+    /// let mut client = Client::with_values();
+    /// let retr = Command::Retr { path: "a.txt".into() };
+    /// client.send_with(&retr, Vec::new(), &mut Vec::new())?;
+    /// client.receive(b"220 Ready\r\n110 MARK a = b\r\n150 Opening\r\n226 Done\r\n")?;
+    /// let mut codes = None;
+    /// while let Some(reply) = client.next_reply_with()? {
+    ///     match reply.to {
+    ///         To::Command(ReplyValue::Preliminary(before)) => before.push(reply.reply.code()),
+    ///         To::Command(ReplyValue::Final(before)) => codes = Some((before, reply.reply.code())),
+    ///         To::Greeting | To::Nothing => {}
+    ///     }
+    /// }
+    /// assert_eq!(codes, Some((vec![110, 150], 226)));
+    /// # Ok::<(), unftp_control::Error>(())
+    /// ```
     ///
     /// # Errors
     ///
-    /// [`Error::ReplyTooLong`] and [`Error::MalformedReply`], as
-    /// [`ReplyDecoder::next_reply`]. All bytes stay pending, and what is owed is as before.
-    pub fn next_reply(&mut self) -> Result<Option<ClientReply<'_>>, Error> {
-        let reply = self.replies.next_reply()?;
-        Ok(reply.map(|reply| self.dialogue.reply(reply)))
+    /// Those of [`next_reply`](Client::next_reply).
+    pub fn next_reply_with(&mut self) -> Result<Option<ClientReply<'_, ReplyValue<'_, T>>>, Error> {
+        let Some(reply) = self.replies.next_reply()? else { return Ok(None) };
+        let to = self.dialogue.reply(reply.code()).map(|(_, value)| value);
+        Ok(Some(ClientReply { to, reply }))
+    }
+
+    /// The values of the commands that are owed their final reply, in the order in which they were
+    /// sent.
+    pub fn values(&self) -> impl DoubleEndedIterator<Item = &T> + ExactSizeIterator + '_ {
+        self.dialogue.values.iter()
+    }
+
+    /// The same values, to change them.
+    pub fn values_mut(
+        &mut self,
+    ) -> impl DoubleEndedIterator<Item = &mut T> + ExactSizeIterator + '_ {
+        self.dialogue.values.iter_mut()
+    }
+
+    /// The same values, at the end of the connection.
+    pub fn into_values(self) -> impl DoubleEndedIterator<Item = T> + ExactSizeIterator {
+        self.dialogue.values.into_iter()
     }
 
     /// Whether the greeting is complete: its final reply was taken, whatever its code, as 220 or a
@@ -205,8 +410,8 @@ impl Client {
     }
 }
 
-impl Default for Client {
-    fn default() -> Client {
-        Client::new()
+impl<T> Default for Client<T> {
+    fn default() -> Client<T> {
+        Client::with_values()
     }
 }

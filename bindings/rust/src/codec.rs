@@ -110,8 +110,10 @@ impl Encoder<Reply> for FtpCodec {
 ///
 /// A reply that is malformed or too long is an error, since nothing says where the next one begins.
 ///
-/// The place of a command is what [`sent`](FtpClientCodec::sent) was before it. As there are
-/// several encoders, `flush` and `close` of a sink want the type of one, any of them:
+/// The place of a command is what [`sent`](FtpClientCodec::sent) was before it. No value comes with
+/// a line, as it may with that of a [`Client`](crate::Client): an item of a stream can't borrow it.
+///
+/// As there are several encoders, `flush` and `close` of a sink want the type of one, any of them:
 ///
 /// ```
 /// use futures_util::SinkExt;
@@ -160,7 +162,7 @@ impl FtpClientCodec {
 
     /// The same with another limit; 0 is none.
     pub fn with_limit(limit: usize) -> FtpClientCodec {
-        FtpClientCodec { search: Search::new(limit), dialogue: Dialogue::default() }
+        FtpClientCodec { search: Search::new(limit), dialogue: Dialogue::new() }
     }
 
     /// Whether the greeting is complete: its final reply was taken, whatever its code.
@@ -187,7 +189,7 @@ impl FtpClientCodec {
 
     /// Appends a line, and notes that it is sent.
     fn append(&mut self, line: &[u8], dst: &mut BytesMut) -> Result<(), CodecError> {
-        self.dialogue.line(line)?;
+        self.dialogue.line(line, ()).map_err(Error::from)?;
         dst.extend_from_slice(line);
         Ok(())
     }
@@ -208,7 +210,8 @@ impl Decoder for FtpClientCodec {
             return Ok(None);
         };
         src.advance(reply.bytes().len());
-        Ok(Some(self.dialogue.reply(reply)))
+        let to = self.dialogue.reply(reply.code()).map(|(place, _)| place);
+        Ok(Some(ClientReply { to, reply }))
     }
 
     fn decode_eof(&mut self, src: &mut BytesMut) -> Result<Option<Self::Item>, CodecError> {

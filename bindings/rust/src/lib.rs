@@ -41,7 +41,8 @@
 //!
 //! # A client
 //!
-//! A [`Client`] writes the lines of commands, and says to which of them each reply is.
+//! A [`Client`] writes the lines of commands, and says to which of them each reply is. It may keep a
+//! value of the caller's for each, which comes with the reply.
 #![cfg_attr(feature = "tokio-util", doc = "[`FtpClientCodec`] does it for tokio.")]
 //! A [`ReplyDecoder`] only takes replies, and [`front_reply`] finds the first one of a slice.
 //!
@@ -116,7 +117,7 @@ mod version;
 
 pub use crate::bytes::{Password, RawBytes};
 pub use canonical::{canonical, forward, is_clear};
-pub use client::{Client, ClientReply, To};
+pub use client::{Client, ClientReply, ReplyValue, SendError, To};
 pub use code::{ReplyCode, UnknownCode};
 #[cfg(feature = "tokio-util")]
 pub use codec::{CodecError, FtpClientCodec, FtpCodec, RawLine};

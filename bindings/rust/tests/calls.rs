@@ -1,7 +1,8 @@
 //! The calls on inputs whose answers are known.
 use unftp_control::{
-    canonical, forward, front_reply, library_version, reply, Command, Error, Event, FrontReply,
-    Pending, Refusal, Reply, ReplyCode, ReplyDecoder, UnknownCode, LINE_LIMIT, REPLY_LIMIT,
+    canonical, forward, front_reply, library_version, reply, Client, Command, Error, Event,
+    FrontReply, Pending, Refusal, Reply, ReplyCode, ReplyDecoder, ReplyValue, To, UnknownCode,
+    LINE_LIMIT, REPLY_LIMIT,
 };
 
 fn command(command: Command) -> Option<Event> {
@@ -339,6 +340,71 @@ fn texts_of_100_kb_go_through_each_call() -> Result<(), Error> {
     assert_eq!(bytes, format!("250 {path}\r\n").as_bytes());
     let (code, used) = (250, bytes.len());
     assert_eq!(front_reply(&bytes), FrontReply::Whole { code, used });
+    Ok(())
+}
+
+#[test]
+fn a_line_that_is_not_sent_gives_its_value_back() -> Result<(), Error> {
+    let (mut client, mut output) = (Client::with_values(), Vec::new());
+    client.send_line_with(b"TYPE A\r\n", "sent".to_string(), &mut output)?;
+    let no_line = Command::Retr { path: "a\nDELE b".into() };
+    for (unsent, error) in [
+        (client.send_line_with(b"RETR a", "kept".to_string(), &mut output), Error::NotALine),
+        (client.send_with(&no_line, "kept".to_string(), &mut output), Error::NoLine),
+    ] {
+        let unsent = unsent.expect_err("it is not one line");
+        assert_eq!(unsent.to_string(), error.to_string());
+        assert!(!format!("{unsent:?}").contains("kept"));
+        assert_eq!((unsent.error, unsent.value.as_str()), (error, "kept"));
+    }
+    assert_eq!((output, client.owed()), (b"TYPE A\r\n".to_vec(), 1));
+    assert!(client.into_values().eq(["sent"]));
+    Ok(())
+}
+
+/// A reply 1yz is preliminary, and any other one is final (RFC 959, section 4.2.1).
+#[test]
+fn each_code_but_1yz_takes_the_value() -> Result<(), Error> {
+    let mut client = Client::with_values();
+    client.receive(b"220 Ready\r\n")?;
+    assert!(matches!(client.next_reply_with()?, Some(taken) if taken.to == To::Greeting));
+    for code in 0..1000 {
+        client.send_line_with(b"NOOP\r\n", code, &mut Vec::new())?;
+        client.receive(format!("{code:03} text\r\n").as_bytes())?;
+        let taken = client.next_reply_with()?.expect("a reply");
+        assert_eq!(taken.reply.is_preliminary(), code / 100 == 1);
+        match taken.to {
+            To::Command(ReplyValue::Preliminary(value)) if code / 100 == 1 => *value += 1000,
+            To::Command(ReplyValue::Final(value)) if code / 100 != 1 => {
+                assert_eq!(value, code);
+                continue;
+            }
+            other => panic!("{code:03} is to {other:?}"),
+        }
+        client.receive(b"200 OK\r\n")?;
+        let last = client.next_reply_with()?.expect("a reply");
+        assert_eq!(last.to, To::Command(ReplyValue::Final(code + 1000)));
+    }
+    client.receive(b"421 Idle\r\n")?;
+    assert!(matches!(client.next_reply_with()?, Some(taken) if taken.to == To::Nothing));
+    Ok(())
+}
+
+#[test]
+fn values_are_in_the_order_of_their_lines() -> Result<(), Error> {
+    let mut client = Client::with_values();
+    for value in 0..5 {
+        client.send_with(&Command::Noop, value, &mut Vec::new())?;
+    }
+    client.receive(b"220 Ready\r\n200 OK\r\n150 Wait\r\n")?;
+    while client.next_reply_with()?.is_some() {}
+    assert!(client.values().eq(&[1, 2, 3, 4]));
+    client.values_mut().for_each(|value| *value *= 10);
+    assert_eq!((client.owed(), client.values().len()), (4, 4));
+    assert!(client.clone().into_values().rev().eq([40, 30, 20, 10]));
+    client.receive(b"200 OK\r\n")?;
+    let taken = client.next_reply_with()?.expect("a reply");
+    assert_eq!(taken.to, To::Command(ReplyValue::Final(10)));
     Ok(())
 }
 

@@ -5,7 +5,8 @@ mod common;
 use common::cases::read_bytes;
 use common::{bytes, calls, limit, rows, shown_decoded};
 use unftp_control::{
-    canonical, log_line, Client, Command, Error, Event, Login, LoginStep, Pending, To,
+    canonical, log_line, Client, ClientReply, Command, Error, Event, Login, LoginStep, Pending,
+    ReplyValue, To,
 };
 
 #[test]
@@ -100,34 +101,74 @@ fn each_command_has_its_canonical_line() {
     }
 }
 
-/// Sends the line of a command as the command itself, or a line as it is.
-fn send(client: &mut Client, act: &str, line: &[u8]) -> Result<u64, Error> {
-    let mut output = Vec::new();
-    if act == "send" {
-        let place = client.send_line(line, &mut output)?;
-        assert_eq!(output, line);
-        return Ok(place);
+/// A client, and one beside it in which the value of each line is its place.
+struct Clients {
+    plain: Client,
+    valued: Client<u64>,
+}
+
+impl Clients {
+    fn with_limit(limit: usize) -> Clients {
+        let plain = Client::with_limit(limit);
+        Clients { plain, valued: Client::with_limit_and_values(limit) }
     }
-    let mut pending = Pending::with_limit(0);
-    pending.push(line)?;
-    match pending.next_event()? {
-        Some(Event::Command(command)) => client.send(&command, &mut output),
-        other => panic!("{other:?} is no command"),
+
+    /// Sends the line of a command as the command itself, or a line as it is.
+    fn send(&mut self, act: &str, line: &[u8]) -> Result<u64, Error> {
+        let (mut output, mut beside, place) = (Vec::new(), Vec::new(), self.plain.sent());
+        let (sent, with_value) = if act == "send" {
+            let sent = self.plain.send_line(line, &mut output);
+            assert!(sent.is_err() || output == line);
+            (sent, self.valued.send_line_with(line, place, &mut beside))
+        } else {
+            let mut pending = Pending::with_limit(0);
+            pending.push(line).expect("memory is there");
+            let event = pending.next_event().expect("memory is there");
+            let Some(Event::Command(command)) = event else { panic!("{event:?} is no command") };
+            let sent = self.plain.send(&command, &mut output);
+            (sent, self.valued.send_with(&command, place, &mut beside))
+        };
+        assert_eq!(output, beside);
+        assert_eq!(sent, with_value.map_err(|unsent| unsent.error));
+        sent
+    }
+
+    fn receive(&mut self, bytes: &[u8]) {
+        self.plain.receive(bytes).expect("memory is there");
+        self.valued.receive(bytes).expect("memory is there");
+    }
+
+    /// What the next reply is to, and its code.
+    fn next_reply(&mut self) -> Result<Option<(To, u16)>, Error> {
+        let taken = self.plain.next_reply();
+        let taken = taken.map(|taken| taken.map(|taken| (taken.to, taken.reply.code())));
+        assert_eq!(taken, self.valued.next_reply_with().map(|taken| taken.map(placed)));
+        let (sent, owed) = (self.plain.sent(), self.plain.owed());
+        assert!(self.valued.values().copied().eq(sent - owed..sent));
+        taken
     }
 }
 
+/// The same of a reply that comes with its place.
+fn placed(taken: ClientReply<'_, ReplyValue<'_, u64>>) -> (To, u16) {
+    let code = taken.reply.code();
+    let place = match taken.to {
+        To::Greeting => return (To::Greeting, code),
+        To::Nothing => return (To::Nothing, code),
+        To::Command(ReplyValue::Preliminary(place)) if taken.reply.is_preliminary() => *place,
+        To::Command(ReplyValue::Final(place)) if !taken.reply.is_preliminary() => place,
+        To::Command(value) => panic!("{code:03} with {value:?}"),
+    };
+    (To::Command(place), code)
+}
+
 /// Takes all complete replies.
-fn take_replies(client: &mut Client, parts: &mut Vec<String>) {
+fn take_replies(clients: &mut Clients, parts: &mut Vec<String>) {
     loop {
-        match client.next_reply() {
-            Ok(Some(taken)) => {
-                let code = taken.reply.code();
-                parts.push(match taken.to {
-                    To::Greeting => format!("greeting {code:03}"),
-                    To::Command(place) => format!("{place} {code:03}"),
-                    To::Nothing => format!("nothing {code:03}"),
-                });
-            }
+        match clients.next_reply() {
+            Ok(Some((To::Greeting, code))) => parts.push(format!("greeting {code:03}")),
+            Ok(Some((To::Command(place), code))) => parts.push(format!("{place} {code:03}")),
+            Ok(Some((To::Nothing, code))) => parts.push(format!("nothing {code:03}")),
             Ok(None) => return,
             Err(error) => {
                 let is_long = error == Error::ReplyTooLong;
@@ -143,20 +184,21 @@ fn each_reply_is_to_its_command() {
     let mut replies = 0;
     for file in ["connections.tsv", "worked.tsv"] {
         for (words, answer) in calls(file, &["client"]) {
-            let mut client = Client::with_limit(limit(&words[0]));
+            let mut clients = Clients::with_limit(limit(&words[0]));
             let mut parts = Vec::new();
             let mut acts = words[1..].iter();
             while let Some(act) = acts.next() {
                 if act == "send" || act == "command" {
                     let line = bytes(acts.next().expect("a line"));
-                    if send(&mut client, act, &line).is_err() {
+                    if clients.send(act, &line).is_err() {
                         parts.push("not sent".to_string());
                     }
                     continue;
                 }
-                client.receive(&bytes(act)).expect("memory is there");
-                take_replies(&mut client, &mut parts);
+                clients.receive(&bytes(act));
+                take_replies(&mut clients, &mut parts);
             }
+            let client = clients.plain;
             let tls = if client.tls_agreed() { " tls" } else { "" };
             let left = client.bytes().len();
             parts.push(format!("owed={} left={left}{tls}", client.owed()));
