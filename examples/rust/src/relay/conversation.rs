@@ -6,20 +6,19 @@ use super::Relay;
 use crate::address::{in_227, in_229};
 use crate::telnet::Telnet;
 use bytes::BytesMut;
-use std::collections::VecDeque;
 use std::future::Future;
-use std::io;
 use std::net::SocketAddr;
 use std::sync::Arc;
+use std::{io, mem};
 use tokio_rustls::TlsAcceptor;
 use tokio_util::codec::Decoder;
 use unftp_control::{
     Client, CodecError, Command, Error, Event, FtpLineCodec, OwnedLine, ReceivedReply, Reply,
-    ReplyCode as Code, To,
+    ReplyCode as Code, ReplyValue, To,
 };
 
 /// How many lines may be owed their replies.
-const MOST_OWED: usize = 64;
+const MOST_OWED: u64 = 64;
 
 /// How many bytes of the client, and of what a side is to be sent, may wait.
 pub const MOST_PENDING: usize = 64 * 1024;
@@ -89,6 +88,12 @@ struct Asked {
     purpose: Purpose,
 }
 
+/// A line with its final reply, which is not passed on yet.
+struct Replied {
+    asked: Asked,
+    reply: ReceivedReply<'static>,
+}
+
 /// What is done with a line.
 pub(super) enum Verdict {
     /// The server is sent this line.
@@ -111,10 +116,9 @@ pub struct Conversation {
     has_lines: bool,
     /// A line that the relay answers, once nothing is owed.
     waiting: Option<(OwnedLine, Exchange)>,
-    dialogue: Client,
-    asked: VecDeque<Asked>,
-    /// A final reply that waits for the data.
-    held: Option<ReceivedReply<'static>>,
+    dialogue: Client<Asked>,
+    /// What waits for the data. All that `dialogue` has came after it.
+    held: Option<Replied>,
     pub(super) transfer: Option<Transfer>,
     pub(super) protection: Protection,
     pub(super) has_user: bool,
@@ -147,8 +151,7 @@ impl Conversation {
             input: BytesMut::new(),
             has_lines: false,
             waiting: None,
-            dialogue: Client::new(),
-            asked: VecDeque::new(),
+            dialogue: Client::with_values(),
             held: None,
             transfer: None,
             protection: Protection::default(),
@@ -190,7 +193,12 @@ impl Conversation {
 
     /// Whether each line has its reply.
     pub fn is_at_rest(&self) -> bool {
-        self.dialogue.is_greeted() && self.asked.is_empty() && self.has_taken_all()
+        self.dialogue.is_greeted() && self.owed() == 0 && self.has_taken_all()
+    }
+
+    /// How many lines are owed their final reply.
+    fn owed(&self) -> u64 {
+        self.dialogue.owed() + u64::from(self.held.is_some())
     }
 
     /// Whether each line was sent to the server, or answered.
@@ -240,8 +248,7 @@ impl Conversation {
         if let Some(held) = self.held.take() {
             let lost = || Reply::new(Code::CONNECTION_CLOSED, "The data connection was lost");
             let is_lost = matches!(self.progress(), Some(Progress::Open | Progress::Failed));
-            let instead = is_lost.then(lost);
-            self.finish(held, instead)?;
+            self.finish(held, is_lost.then(lost))?;
         }
         self.advance()
     }
@@ -267,7 +274,9 @@ impl Conversation {
         if let Some(reply) = &last {
             reply.encode(&mut self.to_client)?;
         }
-        let owed = self.asked.drain(..).map(|asked| asked.exchange);
+        let held = self.held.take().map(|held| held.asked);
+        let asked = held.into_iter().chain(mem::take(&mut self.dialogue).into_values());
+        let owed = asked.map(|asked| asked.exchange);
         for mut exchange in owed.chain(self.waiting.take().map(|(_, exchange)| exchange)) {
             match &last {
                 Some(reply) => exchange.note(Answer::Own(reply.clone())),
@@ -290,12 +299,18 @@ impl Conversation {
 
     fn take_replies(&mut self) -> Result<(), End> {
         while self.held.is_none() {
-            let Some(taken) = self.dialogue.next_reply()? else { return Ok(()) };
+            let Some(taken) = self.dialogue.next_reply_with()? else { return Ok(()) };
             let (to, reply) = (taken.to, taken.reply.into_owned());
             self.is_active = true;
             match to {
                 To::Greeting => self.greet(reply)?,
-                To::Command(_) => self.take_reply(reply)?,
+                To::Command(ReplyValue::Preliminary(asked)) => {
+                    self.to_client.extend_from_slice(reply.bytes());
+                    asked.exchange.note(Answer::Received(reply));
+                }
+                To::Command(ReplyValue::Final(asked)) => {
+                    self.take_final(Replied { asked, reply })?
+                }
                 To::Nothing if reply.code() == 421 => {
                     self.pass_unasked(reply);
                     return Err(End::Silent);
@@ -320,31 +335,25 @@ impl Conversation {
         self.exchanges.push(exchange);
     }
 
-    fn take_reply(&mut self, reply: ReceivedReply<'static>) -> Result<(), End> {
-        let Some(asked) = self.asked.front_mut() else { return Err(End::Silent) };
-        if reply.is_preliminary() {
-            self.to_client.extend_from_slice(reply.bytes());
-            asked.exchange.note(Answer::Received(reply));
-            return Ok(());
-        }
-        let is_passive = matches!(asked.purpose, Purpose::Passive { .. });
-        if matches!(reply.code(), 227 | 229) && !is_passive {
+    /// Passes on a final reply, or holds it until the client has all data.
+    fn take_final(&mut self, replied: Replied) -> Result<(), End> {
+        let (code, purpose) = (replied.reply.code(), &replied.asked.purpose);
+        let is_download = matches!(purpose, Purpose::Transfer { is_download: true });
+        if matches!(code, 227 | 229) && !matches!(purpose, Purpose::Passive { .. }) {
+            // what ends the session answers its line
+            self.held = Some(replied);
             return Err(End::Told("The server named an address that nobody asked for"));
         }
-        let is_of_data = matches!(asked.purpose, Purpose::Transfer { is_download: true })
-            && matches!(reply.code(), 226 | 250);
-        if is_of_data && !self.is_delivered() {
-            self.held = Some(reply);
+        if is_download && matches!(code, 226 | 250) && !self.is_delivered() {
+            self.held = Some(replied);
             return Ok(());
         }
-        self.finish(reply, None)
+        self.finish(replied, None)
     }
 
     /// Passes on a final reply, or what is sent instead.
-    fn finish(&mut self, reply: ReceivedReply<'static>, instead: Option<Reply>) -> Result<(), End> {
-        let Some(Asked { mut exchange, purpose }) = self.asked.pop_front() else {
-            return Err(End::Silent);
-        };
+    fn finish(&mut self, replied: Replied, instead: Option<Reply>) -> Result<(), End> {
+        let Replied { asked: Asked { mut exchange, purpose }, reply } = replied;
         self.is_closing = matches!(reply.code(), 221 | 421);
         if let Some(instead) = instead.or_else(|| self.rewritten(purpose, &reply)) {
             return self.answer(exchange, instead);
@@ -380,7 +389,7 @@ impl Conversation {
 
     /// Takes a line and does what is to be done with it, unless there is none or it has to wait.
     fn take_line(&mut self) -> Result<bool, End> {
-        let has_room = self.has_room() && self.asked.len() < MOST_OWED;
+        let has_room = self.has_room() && self.owed() < MOST_OWED;
         if !self.dialogue.is_greeted() || self.begins_tls || !has_room {
             return Ok(false);
         }
@@ -397,7 +406,7 @@ impl Conversation {
             }
         };
         match self.decide(&line) {
-            Verdict::Send(sent, purpose) => self.send(&line, &sent, Asked { exchange, purpose })?,
+            Verdict::Send(sent, purpose) => self.send(line, &sent, Asked { exchange, purpose })?,
             _ if self.dialogue.owed() > 0 => {
                 self.waiting = Some((line, exchange));
                 return Ok(false);
@@ -431,16 +440,19 @@ impl Conversation {
         Ok(())
     }
 
-    /// Sends a line to the server.
-    fn send(&mut self, line: &OwnedLine, sent: &[u8], asked: Asked) -> Result<(), End> {
+    /// Sends a line to the server, for this one of the client.
+    fn send(&mut self, line: OwnedLine, sent: &[u8], asked: Asked) -> Result<(), End> {
         self.is_urgent = false;
         match line.event {
             Event::Command(Command::Abor) => self.abort()?,
             Event::Command(Command::User { .. }) => self.has_user = true,
             _ => {}
         }
-        self.dialogue.send_line(sent, &mut self.to_server)?;
-        self.asked.push_back(asked);
+        if let Err(unsent) = self.dialogue.send_line_with(sent, asked, &mut self.to_server) {
+            // what ends the session answers the line
+            self.waiting = Some((line, unsent.value.exchange));
+            return Err(unsent.error.into());
+        }
         self.hide_neighbours();
         Ok(())
     }
@@ -448,8 +460,10 @@ impl Conversation {
     /// Where the server counts its replies otherwise, a hidden line's reply comes as that to one of
     /// the others.
     fn hide_neighbours(&mut self) {
-        if self.asked.iter().any(|asked| asked.exchange.is_hidden()) {
-            self.asked.iter_mut().for_each(|asked| asked.exchange.hide());
+        let held = self.held.iter().map(|held| &held.asked);
+        if held.chain(self.dialogue.values()).any(|asked| asked.exchange.is_hidden()) {
+            let held = self.held.iter_mut().map(|held| &mut held.asked);
+            held.chain(self.dialogue.values_mut()).for_each(|asked| asked.exchange.hide());
         }
     }
 
@@ -458,7 +472,7 @@ impl Conversation {
         if let Some(held) = self.held.take() {
             self.finish(held, None)?;
         }
-        for asked in &mut self.asked {
+        for asked in self.dialogue.values_mut() {
             if matches!(asked.purpose, Purpose::Transfer { .. }) {
                 asked.purpose = Purpose::PassOn;
                 self.is_urgent = true;
