@@ -52,7 +52,8 @@
 //! the one line that means what a client's line does. Before it forwards a line, a proxy refuses
 //! one that is not clear ([`is_clear`]), with bytes that servers read in different ways. With a
 //! [`Client`] toward the server, a line that the proxy answers itself waits until the
-//! [greeting](Client::is_greeted) is complete and [`owed`](Client::owed) is 0.
+//! [greeting](Client::is_greeted) is complete, [`owed`](Client::owed) is 0, and the proxy has passed
+//! on each reply that it has taken.
 //!
 //! # Linking
 //!

@@ -196,7 +196,7 @@ impl Conversation {
         self.dialogue.is_greeted() && self.owed() == 0 && self.has_taken_all()
     }
 
-    /// How many lines are owed their final reply.
+    /// How many lines are owed their final reply, with the one whose reply waits for the data.
     fn owed(&self) -> u64 {
         self.dialogue.owed() + u64::from(self.held.is_some())
     }
@@ -407,7 +407,7 @@ impl Conversation {
         };
         match self.decide(&line) {
             Verdict::Send(sent, purpose) => self.send(line, &sent, Asked { exchange, purpose })?,
-            _ if self.dialogue.owed() > 0 => {
+            _ if self.owed() > 0 => {
                 self.waiting = Some((line, exchange));
                 return Ok(false);
             }
