@@ -395,7 +395,7 @@ def check_stack(program):
     inputs, *lines = said_of_inputs(program).splitlines()
     took = {name: int(size) for name, size in (line.split("\t") for line in lines)}
     wants("the calls", sorted(took), sorted(calls()))
-    for name in ["include/unftp_control.h", "packaging/unftp_control.3", "docs/GUIDE.md"]:
+    for name in ["include/unftp_control.h", "packaging/unftp_control.3", "docs/C.md"]:
         [most] = re.findall(r"at most ([\d,]+) bytes of stack", (TOP / name).read_text(encoding="utf-8"))
         if max(took.values()) > int(most.replace(",", "")):
             raise Wrong(f"{name} has {most} bytes of stack: {took}")
