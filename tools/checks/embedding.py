@@ -35,7 +35,7 @@ import sys
 import tempfile
 import threading
 
-from rows import columns, command_of, quoted, rows, unquoted
+from rows import command_of, differences, quoted, rows, unquoted
 from started_server import GREETING, HOST, LIFE, PATIENCE, StartedServer, Wrong, receive, run_check, send_pieces, wants
 
 sys.path.append(str(pathlib.Path(__file__).resolve().parents[1]))
@@ -81,7 +81,7 @@ WORDS = {
 
 def one_lines():
     """The lines whose one line feed is their last byte, with their answers."""
-    cases = [(unquoted(case.split("\t")[1]), answer) for name in LINE_FILES for case, answer in rows(name)]
+    cases = [(unquoted(row.case.split("\t")[1]), row.answer) for name in LINE_FILES for row in rows(name)]
     return [(line, answer) for line, answer in cases if line.find(b"\n") == len(line) - 1 >= 0]
 
 
@@ -257,33 +257,34 @@ def check_memory(preload, program):
     return f"421 at {number - first} failed allocations"
 
 
-def answers_of(program, cases):
-    """What the program answers to these cases."""
-    text = "".join(f"{case}\n" for case in cases)
+def answers_of(program, asked):
+    """What the program answers to these rows."""
+    text = "".join(f"{row.case}\n" for row in asked)
     run = subprocess.run(program, input=text, capture_output=True, encoding="ascii", timeout=LIFE)
     wants("the program's status", (run.returncode, run.stderr), (0, ""))
     answers = run.stdout.splitlines()
-    wants("the number of answers", len(answers), len(cases))
+    wants("the number of answers", len(answers), len(asked))
     return answers
 
 
-def compare(cases, answers, expected):
-    """Compares the answers that are not `skipped`, and returns how many these are."""
-    for case, answer, wanted in zip(cases, answers, expected):
-        if answer != "skipped":
-            wants(case, answer, wanted)
-    return sum(answer != "skipped" for answer in answers)
+def compare(program, asked):
+    """Compares the answers that are not `skipped` with those of the rows, and returns them with their rows."""
+    compared = [(row, answer) for row, answer in zip(asked, answers_of(program, asked)) if answer != "skipped"]
+    wrong, shown = differences(compared)
+    if wrong:
+        raise Wrong(f"{wrong} of {len(compared)} rows differ\n{shown}")
+    return compared
 
 
 def check_answers(*arguments):
     """A vector file: of its rows no more than so many are skipped."""
     *program, name, most = arguments
-    cases, expected = zip(*rows(name))
-    compared = compare(cases, answers_of(program, cases), expected)
-    skipped = len(cases) - compared
+    asked = rows(name)
+    compared = len(compare(program, asked))
+    skipped = len(asked) - compared
     if skipped > int(most) or compared == 0:
-        raise Wrong(f"{skipped} of {len(cases)} rows are skipped, and not at most {most}")
-    return f"{compared} of {len(cases)} rows compared, {skipped} skipped"
+        raise Wrong(f"{skipped} of {len(asked)} rows are skipped, and not at most {most}")
+    return f"{compared} of {len(asked)} rows compared, {skipped} skipped"
 
 
 # the calls of the rows that a program in C answers
@@ -292,13 +293,10 @@ IN_C = ["canonical", "client", "decode", "encode", "forward", "log", "parse", "r
 
 def check_worked(*program):
     """The rows by hand of the calls that C has. Of `canonical` the line alone is compared."""
-    found = [(case, re.sub('" is (ok|err) .*', '"', answer) if case.startswith("canonical") else answer) for case, answer in rows("worked.tsv")]
-    cases, expected = zip(*found)
-    answers = answers_of(program, cases)
-    compared = compare(cases, answers, expected)
-    names = [case.split("\t")[0] for case in cases]
-    wants("the calls", sorted({name for name, answer in zip(names, answers) if answer != "skipped"}), IN_C)
-    return f"{compared} of {sum(name in IN_C for name in names)} rows of these calls compared"
+    asked = [row.asked(row.case, re.sub('" is (ok|err) .*', '"', row.answer)) if row.call == "canonical" else row for row in rows("worked.tsv")]
+    compared = compare(program, asked)
+    wants("the calls", sorted({row.call for row, _ in compared}), IN_C)
+    return f"{len(compared)} of {sum(row.call in IN_C for row in asked)} rows of these calls compared"
 
 
 def shown_replies(case, answer):
@@ -324,24 +322,23 @@ def shown_replies(case, answer):
 
 def check_read(*program):
     """What servers wrote: the code and the length of each reply, and what is left."""
-    cases, answers = zip(*rows("server_replies.tsv"))
-    expected = [shown_replies(case, answer) for case, answer in zip(cases, answers)]
-    compare(cases, answers_of(program, cases), expected)
-    return f"{len(cases)} streams of {sum(answer.count(':') for answer in expected)} replies compared"
+    asked = [row.asked(row.case, shown_replies(row.case, row.answer)) for row in rows("server_replies.tsv")]
+    compare(program, asked)
+    return f"{len(asked)} streams of {sum(row.answer.count(':') for row in asked)} replies compared"
 
 
 def read_back(program, call):
     """The line that the call writes for a client's line is read as its command; a refused line has the same refusal."""
-    cases, expected = zip(*rows("client_lines.tsv"))
-    written = answers_of(program, [re.sub("^parse", call, case) for case in cases])
-    refused = [(line, answer) for line, answer in zip(written, expected) if not line.startswith('"')]
-    for line, answer in refused:
-        wants("a refusal", line, answer)
-    lines = [f"parse\t{line}" for line in written if line.startswith('"')]
-    commands = [answer for line, answer in zip(written, expected) if line.startswith('"')]
-    if compare(lines, answers_of(program, lines), commands) != len(lines) or not lines:
+    asked = [row.asked(re.sub("^parse", call, row.case)) for row in rows("client_lines.tsv")]
+    written = [*zip(asked, answers_of(program, asked))]
+    refused = [(row, line) for row, line in written if not line.startswith('"')]
+    wrong, shown = differences(refused)
+    if wrong:
+        raise Wrong(f"{wrong} of {len(refused)} refusals differ\n{shown}")
+    read = [row.asked(f"parse\t{line}", how=", its written line") for row, line in written if line.startswith('"')]
+    if len(compare(program, read)) != len(read) or not read:
         raise Wrong("a line that was written was skipped")
-    return f"{len(lines)} commands read back, {len(refused)} lines refused"
+    return f"{len(read)} commands read back, {len(refused)} lines refused"
 
 
 def check_canonical(*program):
@@ -351,9 +348,9 @@ def check_canonical(*program):
 
 def check_forward(*program):
     """So is the line that is forwarded; and the rows by hand say what it keeps."""
-    cases, expected = zip(*[(case, answer) for case, answer in rows("worked.tsv") if case.startswith("forward\t")])
-    compare(cases, answers_of(program, cases), expected)
-    return f"{read_back(program, 'forward')}, {len(cases)} rows compared"
+    asked = [row for row in rows("worked.tsv") if row.call == "forward"]
+    compare(program, asked)
+    return f"{read_back(program, 'forward')}, {len(asked)} rows compared"
 
 
 # the vector files with lines and streams that clients sent, and those with texts of replies
@@ -376,7 +373,7 @@ def said_of(program, inputs):
 
 def said_of_inputs(*program):
     """What the program prints, to all that the vector files have between quotes, and to long lines."""
-    words = [word for name in INPUT_FILES for case, _ in rows(name) for word in re.findall(r'"(?:[^"\\]|\\.)*"', case)]
+    words = [word for name in INPUT_FILES for row in rows(name) for word in re.findall(r'"(?:[^"\\]|\\.)*"', row.case)]
     lengths = LONG_TEXTS[:1] if len(program) > 1 else LONG_TEXTS
     long = {b"RETR " + b"a" * length + b"\r\n" for length in lengths} | {line for line, _ in long_lines()}
     inputs = sorted({unquoted(word) for word in words} | long)
@@ -711,7 +708,7 @@ def is_in_line(line):
 def check_allocations(program):
     """The lines among the rows by hand whose one line feed is their last byte: how often parse asks for memory is in their rows. unftp_next asks as
     often at a value with CR NUL, never at a line that has its command's name and value, and else never or as often."""
-    parsed = [(unquoted(line), number) for _, number, call, line, *_ in columns("worked.tsv") if call == "parse"]
+    parsed = [(unquoted(row.columns[3]), row.columns[1]) for row in rows("worked.tsv") if row.call == "parse"]
     lines, numbers = zip(*[(line, number) for line, number in parsed if line.find(b"\n") == len(line) - 1 >= 0])
     for line, number, found in zip(lines, numbers, said_of([program], lines).splitlines(), strict=True):
         wanted = ["0"] if is_in_line(line) else [number] if b"\r\0" in line else ["0", number]
