@@ -1,4 +1,4 @@
-# A program that asks for 0.1 gets each 0.1.x from the patch on that it names.
+# A program that asks for @SERIES@ gets each @SERIES@.x from the patch on that it names.
 set(PACKAGE_VERSION "@VERSION@")
 if(PACKAGE_FIND_VERSION VERSION_GREATER PACKAGE_VERSION
     OR NOT "${PACKAGE_FIND_VERSION_MAJOR}.${PACKAGE_FIND_VERSION_MINOR}" STREQUAL "@SERIES@")

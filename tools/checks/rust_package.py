@@ -111,9 +111,12 @@ CALLS = ['parse\t"NOOP\\r\\n"', 'encode\tmsg\t200\t"OK"', 'read\t"220 a\\r\\n"',
 
 def check_version(program):
     """Each call ends before it is made."""
+    version = (TOP / "VERSION").read_text(encoding="utf-8").strip()
+    major, minor, _ = version.split(".")
+    wanted = f"linked with a library of version 9.9.9, and needs {version} or later, and before {major}.{int(minor) + 1}.0"
     for case in CALLS:
         run = subprocess.run([program], input=case + "\n", capture_output=True, text=True, timeout=PATIENCE)
-        said = "linked with a library of version 9.9.9, and needs 0.1.0 or later, and before 0.2.0" in run.stderr
+        said = wanted in run.stderr
         wants(f"{case} ends with", (run.returncode, run.stdout, said), (101, "", True))
     return f"{len(CALLS)} calls"
 

@@ -1,16 +1,16 @@
 //! Which versions of the C library this crate may be linked with. The build script has this module
 //! too.
 
-/// The version that the crate is written for, as `unftp_version` returns it: 0.1.0.
+/// The version that the crate is written for, as `unftp_version` returns it.
 const NEEDED: u32 = 1_000;
 
-/// Whether a library of this version has the calls, structs and numbers of `ffi`: it is of the same
-/// series, 0.1, and no older.
+/// Whether a library of this version has the calls, structs and numbers of `ffi`: it has the same
+/// major and minor number, and is no older.
 pub(crate) fn fits(version: u32) -> bool {
     version >= NEEDED && version / 1_000 == NEEDED / 1_000
 }
 
-/// A version as text: 0.1.0.
+/// A version as text: its three numbers.
 pub(crate) fn text(version: u32) -> String {
     format!("{}.{}.{}", version / 1_000_000, version / 1_000 % 1_000, version % 1_000)
 }
