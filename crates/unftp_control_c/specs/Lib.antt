@@ -10,3 +10,4 @@ pub mod ForwardedLines
 pub mod LogLines
 pub mod Clients
 pub mod Logins
+pub mod Addresses

@@ -11,7 +11,7 @@ use Rattle.unftp_control_write.specs.declared.WriteCommandError.TheVariants as e
 use Rattle.unftp_control_write.specs.declared.forwarding.ForwardError.{ForwardError}
 use Rattle.unftp_control_write.specs.declared.forwarding.ForwardError.TheVariants as forward
 use Rattle.unftp_control_c.specs.declared.status.Status.{Status}
-use Rattle.unftp_control_c.specs.declared.status.Status.TheVariants.{Done, More, InvalidCommand, InvalidUtf8, InvalidEol, LineTooLong, OutOfMemory, NoRoom, NoLine, Malformed, UnknownCode, InvalidArgument}
+use Rattle.unftp_control_c.specs.declared.status.Status.TheVariants.{Done, More, InvalidCommand, InvalidUtf8, InvalidEol, LineTooLong, OutOfMemory, NoRoom, NoLine, Malformed, UnknownCode, InvalidArgument, NoAddress, UnknownProtocol}
 
 -- what a call reports where it gives no command
 abbrev pub status_number : Status → ℕ
@@ -27,6 +27,8 @@ status_number NoLine = 108
 status_number Malformed = 109
 status_number UnknownCode = 110
 status_number InvalidArgument = 111
+status_number NoAddress = 112
+status_number UnknownProtocol = 113
 
 abbrev pub refusal_status : Refusal → Status
 refusal_status refusal.InvalidCommand = InvalidCommand

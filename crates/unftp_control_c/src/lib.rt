@@ -1,6 +1,7 @@
 //! The calls for C: include/unftp_control.h declares them, and says what each is for.
 #![tactic(auto)]
 
+mod address;
 mod areas;
 mod canonical;
 mod clear;

@@ -34,6 +34,10 @@ pub enum Status {
     /// The offset is past the pending bytes, or is not 0 while bytes are skipped, or the flag is
     /// greater than 1.
     InvalidArgument = 111,
+    /// The text has no such address.
+    NoAddress = 112,
+    /// The address is of a protocol other than IPv4 and IPv6.
+    UnknownProtocol = 113,
 }
 
 impl Status {

@@ -1,0 +1,39 @@
+//! What follows from how addresses are read and written.
+ghost use Rattle.std.specs.Prelude.{◌≡◌, ◌==◌, ◌++◌, Some, not, true};
+ghost use Rattle.std.specs.List.{list_all};
+ghost use Rattle.std.specs.Net.Socket.{IsPlainSocket, IsSocketAddr, socket_port};
+ghost use Rattle.std.specs.declared.net.socket_addr.SocketAddr.{SocketAddr as RustAddress};
+ghost use Rattle.unftp_control_defs.specs.Bytes.{Bytes};
+ghost use Rattle.unftp_control_address.specs.Extended.{IsExtended, LEFT, extended_port, extended_port_text, extended_text};
+ghost use Rattle.unftp_control_address.specs.HostPorts.{begins_outside, first_host_port, host_port, host_port_of, host_port_text, is_outside};
+
+use std::net::SocketAddrV4;
+
+/// An address that is written for PORT or a 227 is read back as the same. It is also found in a
+/// text that has no digit or comma before it, nor directly after it.
+pub fn host_ports_read_back(address: SocketAddrV4)
+    ensures read { host_port (host_port_text (host_port_of address)) ≡ Some (host_port_of address) }
+    ensures found { (before after : Bytes) → list_all is_outside before ≡ true
+        → begins_outside after ≡ true
+        → first_host_port (before ++ (host_port_text (host_port_of address) ++ after))
+        ≡ Some (host_port_of address) }
+{}
+
+/// An address that is written for EPRT is read back as the same, where it has no flow information
+/// and no scope.
+pub fn extended_addresses_read_back()
+    ensures { (address : RustAddress) → IsSocketAddr address
+        → IsPlainSocket address (socket_port address)
+        → IsExtended (extended_text address) address }
+{}
+
+/// A value of EPRT spells one address at most.
+pub fn one_extended_address()
+    ensures { (value : Bytes) (a b : RustAddress) → IsExtended value a → IsExtended value b → a ≡ b }
+{}
+
+/// A port that is written for a 229 is found in a text that has no opening bracket before it.
+pub fn extended_ports_are_found(port: u16)
+    ensures { (before after : Bytes) → list_all (λ b. not (b == LEFT)) before ≡ true
+        → extended_port (before ++ (extended_port_text port ++ after)) ≡ Some port }
+{}

@@ -1,0 +1,14 @@
+//! The addresses of FTP's data connections, as commands and replies spell them. They are read and
+//! written without a look at whose address it is: that is the caller's to decide.
+#![tactic(auto)]
+
+pub mod examples;
+mod extended;
+mod host_port;
+pub mod laws;
+mod number;
+
+pub use crate::extended::{
+    AddressError, find_extended_port, read_extended, write_extended, write_extended_port,
+};
+pub use crate::host_port::{find_host_port, read_host_port, write_host_port};
