@@ -26,6 +26,9 @@ pub use Rattle.unftp_control_defs.specs.Texts
 pub use Rattle.unftp_control_defs.specs.Run
 pub use Rattle.unftp_control_defs.specs.Turns
 pub use Rattle.unftp_control_defs.specs.Pieces
+pub use Rattle.unftp_control_address.specs.Numbers
+pub use Rattle.unftp_control_address.specs.HostPorts
+pub use Rattle.unftp_control_address.specs.Extended
 pub use Rattle.unftp_control_message.specs.CommandMeaning
 pub use Rattle.unftp_control_message.specs.declared.Command
 pub use Rattle.unftp_control_codecs.specs.ParseAnswer

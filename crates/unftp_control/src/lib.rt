@@ -11,6 +11,7 @@ pub mod laws;
 pub mod write;
 
 pub use bytes;
+pub use unftp_control_address as address;
 pub use unftp_control_client as client;
 pub use unftp_control_codecs as codecs;
 pub use unftp_control_codecs::line_parser;

@@ -10,7 +10,7 @@ use Rattle.std.proofs.lemmas.List.{take_all}
 use Rattle.std.proofs.lemmas.Str.{digit_value_digit}
 use Rattle.std.proofs.lemmas.Str.Parse.{IsDigitsTest, IsNumeralModel, numerals_by_value, digits_value-take-le, digits_value_short, digit_at}
 use Rattle.std.proofs.lemmas.Int.Digits.{digits_value_more}
-use Rattle.unftp_control_address.specs.Numbers.{is_number, number}
+use Rattle.unftp_control_address.specs.Numbers.{is_number, number_below}
 use Rattle.unftp_control_defs.specs.Bytes.{Bytes}
 
 abbrev pub AreDigits : Bytes → Type 0
@@ -48,19 +48,19 @@ step most text i e short within =
     }
 
 pub spelled : (most : ℕ) (text : Bytes) → is_number most text ≡ true → most ≤ 5
-    → number most 100000 text ≡ Some (digits_value 10 text)
+    → number_below most 100000 text ≡ Some (digits_value 10 text)
 spelled most text e short =
     let digits = digits_of most text e in
     let bound = digits_value_short own text 5 digits.0 (omega (arith, digits.1)) in
     rw (e, lt-ltb (digits_value 10 text) 100000 bound) refl
 
-pub not_spelled : (most bound : ℕ) (text : Bytes) → is_number most text ≡ false → number most bound text ≡ None
+pub not_spelled : (most bound : ℕ) (text : Bytes) → is_number most text ≡ false → number_below most bound text ≡ None
 not_spelled most bound text e = rw e refl
 
-pub narrow : (most bound n : ℕ) (text : Bytes) → bound ≤ 100000 → number most 100000 text ≡ Some n → number most bound text ≡ (if nat_lt n bound then Some n else None)
+pub narrow : (most bound n : ℕ) (text : Bytes) → bound ≤ 100000 → number_below most 100000 text ≡ Some n → number_below most bound text ≡ (if nat_lt n bound then Some n else None)
 narrow most bound n text small e = search (rules, tests, arith)
 
-pub narrow_none : (most bound : ℕ) (text : Bytes) → bound ≤ 100000 → number most 100000 text ≡ None → number most bound text ≡ None
+pub narrow_none : (most bound : ℕ) (text : Bytes) → bound ≤ 100000 → number_below most 100000 text ≡ None → number_below most bound text ≡ None
 narrow_none most bound text small e = search (rules, tests, arith)
 
 -- what `position` returned

@@ -8,7 +8,7 @@ use Rattle.std.proofs.lemmas.Str.Parse.{digit_at}
 use Rattle.std.proofs.lemmas.List.Elements.{All-append, All-cons, All-from_get_or}
 use Rattle.std.proofs.lemmas.Fmt.{decimal_nonempty, digits_decimal, digits_value-decimal, length-decimal-le}
 use Rattle.std.proofs.lemmas.List.Splits.{slice_split_at}
-use Rattle.unftp_control_address.specs.Numbers.{number, octet, octets, octets_between, onto}
+use Rattle.unftp_control_address.specs.Numbers.{number_below, octet, octets, octets_between, onto}
 use Rattle.unftp_control_address.specs.HostPorts.{COMMA, host_port, host_port_text, joined}
 use Rattle.unftp_control_address.proofs.NumberLemmas.{AreDigits, own, is_number_of}
 use Rattle.unftp_control_address.proofs.OctetLemmas.{digits_unsplit, one}
@@ -18,7 +18,7 @@ decimal_digits n small = digits_decimal own n (omega (arith, small))
 
 -- a number in decimal is read as the number
 pub number_decimal : (most bound n : ℕ) → n < bound → bound ≤ 100000 → length (decimal n) ≤ most
-    → number most bound (decimal n) ≡ Some n
+    → number_below most bound (decimal n) ≡ Some n
 number_decimal most bound n small wide short =
     let value = digits_value-decimal own n (omega (arith, small, wide)) in
     let some = decimal_nonempty n (omega (arith, small, wide)) in

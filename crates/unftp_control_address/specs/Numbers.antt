@@ -11,17 +11,17 @@ is_number most text =
     (not (length text == 0) && nat_le (length text) most) && list_all is_ascii_digit text
 
 -- the number that the text spells, of at most so many digits and below the bound
-abbrev pub number : ℕ → ℕ → Bytes → Option ℕ
-number most bound text = if is_number most text && nat_lt (digits_value 10 text) bound
+abbrev pub number_below : ℕ → ℕ → Bytes → Option ℕ
+number_below most bound text = if is_number most text && nat_lt (digits_value 10 text) bound
     then Some (digits_value 10 text) else None
 
 -- a number of 8 bits: one to three digits
 abbrev pub octet : Bytes → Option ℕ
-octet text = number 3 256 text
+octet text = number_below 3 256 text
 
 -- a number of 16 bits, such as a port: one to five digits
 abbrev pub short : Bytes → Option ℕ
-short text = number 5 65536 text
+short text = number_below 5 65536 text
 
 -- one more number before others, where all are numbers
 abbrev pub onto : Option ℕ → Option (List ℕ) → Option (List ℕ)

@@ -3,7 +3,7 @@ ghost use Rattle.std.specs.Prelude.{◌≡◌, ◌≢◌, ◌<◌, ◌≤◌, �
 ghost use Rattle.std.specs.Prelude.{Some, ◌∷◌, MatchOption, false, length, option_map, List, ℕ};
 ghost use Rattle.std.specs.List.{before_first, after_first, list_all, position_or_len};
 ghost use Rattle.std.specs.Char.{is_ascii_digit};
-ghost use Rattle.unftp_control_address.specs.Numbers.{is_number, number, octet, octets_between, of_length, short};
+ghost use Rattle.unftp_control_address.specs.Numbers.{is_number, number_below, octet, octets_between, of_length, short};
 
 /// The text before the first such byte, and what is after it; none where there is no such byte.
 pub(crate) fn cut(text: &[u8], byte: u8) -> Option<(&[u8], &[u8])>
@@ -35,7 +35,7 @@ fn is_number(text: &[u8], most: usize) -> bool
 /// The number that the text spells, of at most so many digits; none where it spells none.
 fn number(text: &[u8], most: usize) -> Option<u32>
     requires { most ≤ 5 }
-    ensures { result ≡ number most 100000 text.now }
+    ensures { result ≡ number_below most 100000 text.now }
 {
     if !is_number(text, most) {
         return None;

@@ -121,8 +121,10 @@ abbrev pub IsWritten : Form → Bytes → ℕ → Made → Type 0
 IsWritten form ip port (Ok text) = HasLength form (length ip) × IsText form ip port text
 IsWritten form ip port (Err status) = IsNotWritten form (length ip) status
 
--- the same, where the form is a number, and the port may be out of range
+-- the form of a number, where the port is one
+abbrev pub form_for : ℕ → ℕ → Option Form
+form_for number port = if nat_lt port 65536 then form_of number else None
+
 abbrev pub IsWrittenBy : Option Form → Bytes → ℕ → Made → Type 0
 IsWrittenBy None ip port text = text ≡ Err InvalidArgument
-IsWrittenBy (Some form) ip port text =
-    if nat_lt port 65536 then IsWritten form ip port text else (text ≡ Err InvalidArgument)
+IsWrittenBy (Some form) ip port text = IsWritten form ip port text

@@ -1,7 +1,7 @@
 //! The addresses of data connections.
 ghost use Rattle.std.specs.Prelude.{◌≡◌, [], Ok, IfErr, IfOk, IsErr, IsOk, OnOk, Result, length, option_map};
 ghost use Rattle.unftp_control_address.specs.HostPorts.{host_port_of, host_port_text};
-ghost use Rattle.unftp_control_c.specs.Addresses.{Address as Given, AreBytesOf, HasLength, IsNotWritten, IsReadBy, IsReadExtended, IsText, IsWrittenBy, form_of, found_meant, host_bytes, left_by, or_none};
+ghost use Rattle.unftp_control_c.specs.Addresses.{Address as Given, AreBytesOf, HasLength, IsNotWritten, IsReadBy, IsReadExtended, IsText, IsWrittenBy, form_for, form_of, found_meant, host_bytes, left_by, or_none};
 ghost use Rattle.unftp_control_c.specs.Areas.{Made, made, written};
 ghost use Rattle.unftp_control_c.specs.declared.address.Form.TheVariants.{Eprt, Port};
 ghost use Rattle.unftp_control_c.specs.declared.status.Status.{Status as RustStatus};
@@ -166,7 +166,7 @@ pub extern "C" fn unftp_write_address(
     out: &mut [u8],
     len: &mut usize,
 ) -> u32
-    ensures { (text : Made) × IsWrittenBy (form_of form) ip.now port text
+    ensures { (text : Made) × IsWrittenBy (form_for form port) ip.now port text
         × (record { result = result; area = out.new; text_length = len.new }
         ≡ written text out.old) }
 {
@@ -175,7 +175,7 @@ pub extern "C" fn unftp_write_address(
 
 /// The text of an address, or why there is none.
 fn address_text(alloc: Global, form: u32, ip: &[u8], port: u32) -> Result<Vec<u8>, Status>
-    ensures { IsWrittenBy (form_of form) ip.now port (made result) }
+    ensures { IsWrittenBy (form_for form port) ip.now port (made result) }
 {
     let Some(form) = Form::of(form) else {
         return Err(Status::InvalidArgument);

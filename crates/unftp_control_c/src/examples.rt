@@ -11,6 +11,7 @@ ghost use Rattle.unftp_control_c.specs.Rows.{a_call, leaving};
 ghost use Rattle.unftp_control_c.specs.Replies.{EncodesReply, IsFoundText, IsReplyOf, found_text, text_lines};
 ghost use Rattle.unftp_control_c.specs.declared.status.Status.TheVariants.{InvalidCommand, InvalidEol, InvalidUtf8, Malformed, More, NoLine, OutOfMemory, UnknownCode};
 
+pub mod addresses;
 pub mod calls;
 pub mod sessions;
 
