@@ -122,8 +122,12 @@ enum unftp_result {
     UNFTP_UNKNOWN_CODE = 110,
     /* No call leaves such a connection: its offset is past the bytes, or is not 0 while bytes are
        skipped, or skipping is greater than 1. Or as many lines were noted as 64 bits count; or the
-       accounts were not asked. */
-    UNFTP_INVALID_ARGUMENT = 111
+       accounts were not asked; or an address has no such form, length or port. */
+    UNFTP_INVALID_ARGUMENT = 111,
+    /* The text has no such address. */
+    UNFTP_NO_ADDRESS = 112,
+    /* The address's protocol is neither IPv4 nor IPv6. */
+    UNFTP_UNKNOWN_PROTOCOL = 113
 };
 
 /* Codes of replies by name, those of RFC 959 (section 4.2.2) where no other RFC is named.
@@ -267,6 +271,27 @@ enum unftp_login_step {
     UNFTP_LOGIN_NEED_NAME = 3,
     /* It answers 530: the command needs a login. */
     UNFTP_LOGIN_NEED_LOGIN = 4
+};
+
+/* Where the address of a data connection is read from, or what it is written for (RFC 959, section
+   4.1.2; RFC 2428). */
+enum unftp_address_form {
+    /* The value of PORT: 127,0,0,1,195,80 */
+    UNFTP_ADDRESS_PORT = 0,
+    /* The value of EPRT: |1|132.235.1.2|6275| or |2|::1|6275| */
+    UNFTP_ADDRESS_EPRT = 1,
+    /* The text of a reply 227, with or without brackets and other text around the six numbers. */
+    UNFTP_ADDRESS_227 = 2,
+    /* The text of a reply 229, a port only: (|||6446|) */
+    UNFTP_ADDRESS_229 = 3
+};
+
+/* What unftp_read_address has read. */
+struct unftp_address {
+    /* How many bytes the host has: 4 of IPv4, 16 of IPv6, and 0 of a 229. */
+    size_t ip_len;
+    /* The port, below 65536. */
+    uint32_t port;
 };
 
 /*
@@ -496,6 +521,50 @@ enum unftp_login_step unftp_login_event(struct unftp_login *login, uint32_t even
  */
 enum unftp_result unftp_login_answer(struct unftp_login *login, uint32_t accepted) UNFTP_NONNULL;
 
+/*
+ * Reads the address of a data connection from a text of this form, one of enum unftp_address_form.
+ * The host is address->ip_len bytes at the start of ip, in network order, as in sin_addr and
+ * sin6_addr. It returns UNFTP_DONE; UNFTP_NO_ADDRESS, which a server answers by 501;
+ * UNFTP_UNKNOWN_PROTOCOL, for EPRT only, which it answers by 522 and the protocols that it has;
+ * UNFTP_NO_ROOM where ip has fewer bytes than ip_len: 16 are always enough; or
+ * UNFTP_INVALID_ARGUMENT for another form. ip is as it was but at UNFTP_DONE; ip_len and port are 0
+ * but at UNFTP_DONE and UNFTP_NO_ROOM. It takes no memory.
+ *
+ * - PORT: six numbers with commas between them, each of one to three digits and below 256, and
+ *   nothing else. Leading zeros are decimal.
+ * - EPRT: a delimiter, the protocol, the delimiter, the host, the delimiter, the port of one to
+ *   five digits, the delimiter, and nothing else. The protocol is 1 for IPv4, whose host is four
+ *   numbers without leading zeros, and 2 for IPv6 (RFC 4291, section 2.2); any other number below
+ *   65536 is UNFTP_UNKNOWN_PROTOCOL, whatever the host and the port are. The delimiter is one of
+ *   "!" to "~" that is no hex digit, colon, dot or closing bracket.
+ * - 227: of the text's words of digits and commas the first that is a value of PORT (RFC 1123,
+ *   section 4.1.2.6).
+ * - 229: after the text's first opening bracket the delimiter three times, a port as for EPRT, the
+ *   delimiter and a closing bracket.
+ *
+ * It doesn't look at whose address it is: that is the caller's to decide. A server that connects to
+ * what PORT or EPRT names, and a client that connects to what a 227 names, can be made to reach a
+ * third host (RFC 2577). So compare the host with the other end of the control connection, which on
+ * a socket of IPv6 may be an IPv4-mapped address. Port 0 is read too; nothing listens there.
+ */
+enum unftp_result unftp_read_address(uint32_t form, const char *text, size_t text_len,
+                                     char *ip, size_t ip_room,
+                                     struct unftp_address *address) UNFTP_NONNULL;
+
+/*
+ * Writes an address to the start of out, as a text of this form has it, and *len is how many bytes
+ * it has: the six numbers, without brackets, for PORT and a 227; the value of EPRT; or the port in
+ * brackets, as (|||6446|), for a 229, for which ip is not looked at. A server puts its own words
+ * around it, as "Entering Passive Mode (" and ").", and unftp_reply makes the reply.
+ *
+ * It returns UNFTP_DONE; UNFTP_NO_ROOM, where *len is the room that is needed, at most 49 bytes;
+ * UNFTP_OUT_OF_MEMORY; or UNFTP_INVALID_ARGUMENT for another form, a port above 65535, or an ip_len
+ * that is not 4 for PORT and a 227, and neither 4 nor 16 for EPRT. out is as it was but at
+ * UNFTP_DONE. What is written is read back by unftp_read_address as the same address.
+ */
+enum unftp_result unftp_write_address(uint32_t form, const char *ip, size_t ip_len, uint32_t port,
+                                      char *out, size_t out_room, size_t *len) UNFTP_NONNULL;
+
 /* The version of the library, as UNFTP_VERSION is that of the header. */
 uint32_t unftp_version(void);
 
@@ -559,6 +628,8 @@ static inline const char *unftp_result_text(enum unftp_result result)
     case UNFTP_MALFORMED: return "malformed reply";
     case UNFTP_UNKNOWN_CODE: return "unknown reply code";
     case UNFTP_INVALID_ARGUMENT: return "invalid argument";
+    case UNFTP_NO_ADDRESS: return "no address";
+    case UNFTP_UNKNOWN_PROTOCOL: return "unknown network protocol";
     default: return "unknown result";
     }
 }

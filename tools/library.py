@@ -179,7 +179,7 @@ def texts(prefix, libdir):
     found = {f"include/{HEADER.name}": HEADER.read_bytes(), f"{libdir}/pkgconfig/unftp_control.pc": filled("unftp_control.pc", **words)}
     for name in ["unftp_control-config.cmake", "unftp_control-config-version.cmake"]:
         found[f"{libdir}/cmake/unftp_control/{name}"] = filled(name, **words)
-    lists = {"COMMANDS": listed(r"UNFTP_(?!CODE_|TO_|LOGIN_|DONE)\w+"), "CODES": listed(r"UNFTP_CODE_\w+")}
+    lists = {"COMMANDS": listed(r"UNFTP_(?!CODE_|TO_|LOGIN_|ADDRESS_|DONE)\w+"), "CODES": listed(r"UNFTP_CODE_\w+")}
     found["share/man/man3/unftp_control.3"] = filled("unftp_control.3", **lists)
     return found
 

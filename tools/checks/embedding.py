@@ -412,7 +412,7 @@ def check_valgrind(*logs):
 
 def constant(name):
     """The header's name, without UNFTP_, of a constructor: InvalidUtf8 is INVALID_UTF8, and InNMinutes IN_N_MINUTES."""
-    special = {"TypeCode": "TYPE", "Listing": "LIST"}
+    special = {"TypeCode": "TYPE", "Listing": "LIST", "Reply227": "227", "Reply229": "229"}
     return special.get(name) or re.sub(r"(?<=[a-z])(?=[A-Z])|(?<=[A-Z])(?=[A-Z][a-z])", "_", name).upper()
 
 
@@ -444,23 +444,29 @@ def check_codes():
 
 def header_numbers():
     """The results of the header, with their numbers."""
-    return numbers_in("include/unftp_control.h", r"^    UNFTP_(?!CODE_|TO_|LOGIN_)(\w+) = (\d+)")
+    return numbers_in("include/unftp_control.h", r"^    UNFTP_(?!CODE_|TO_|LOGIN_|ADDRESS_)(\w+) = (\d+)")
 
 
-# the other enums of the header: what their names begin with, and the definition that has their numbers
+def equations(function):
+    """What finds the numbers of a definition's equations."""
+    return rf"^{function} \(?(\w+)(?: \w+\))? = (\d+)$"
+
+
+# the other enums of the header: what their names begin with, and what finds their numbers in a module of definitions
 ENUMS = {
-    "TO": ("Clients", "to_number"),
-    "LOGIN": ("Logins", "step_number"),
+    "TO": ("Clients", equations("to_number")),
+    "LOGIN": ("Logins", equations("step_number")),
+    "ADDRESS": ("Addresses", r"\bif number == (\d+)\s+then Some (\w+)"),
 }
 
 
 def check_enums():
     """The numbers of the header's other enums are those of the definitions."""
-    for prefix, (module, function) in ENUMS.items():
-        defined = numbers_in(f"crates/unftp_control_c/specs/{module}.antt", rf"^{function} \(?(\w+)(?: \w+\))? = (\d+)$")
+    for prefix, (module, pattern) in ENUMS.items():
+        defined = numbers_in(f"crates/unftp_control_c/specs/{module}.antt", pattern)
         wants_numbers(f"UNFTP_{prefix}", numbers_in("include/unftp_control.h", rf"^    UNFTP_{prefix}_(\w+) = (\d+)"), defined)
         if not defined:
-            raise Wrong(f"{function} has no number")
+            raise Wrong(f"{module} has no number of UNFTP_{prefix}")
     return f"{len(ENUMS)} other enums"
 
 

@@ -17,6 +17,7 @@ typedef char found_reply[offsetof(struct unftp_found_reply, code) == sizeof(size
 typedef char client[
     offsetof(struct unftp_client, agreed) == 3 * sizeof(uint64_t) + 2 * sizeof(uint32_t) ? 1 : -1];
 typedef char login[sizeof(struct unftp_login) == sizeof(uint32_t) ? 1 : -1];
+typedef char address[offsetof(struct unftp_address, port) == sizeof(size_t) ? 1 : -1];
 
 int main(void)
 {
