@@ -84,7 +84,8 @@ def check_public(*arguments):
 
 
 # each calls a function of the library that takes memory
-CASE, ANSWER = 'parse\t"RETR a\\r\\0b\\r\\n"\nlog\tnone\t"retr a\\r\\0b\\r\\n"\n', 'ok Retr path="a\\rb"\n"RETR a\\\\rb"\n'
+CASE = 'parse\t"RETR a\\r\\0b\\r\\n"\nlog\tnone\t"retr a\\r\\0b\\r\\n"\nwrite_address\tPORT\t127.0.0.1\t50000\n'
+ANSWER = 'ok Retr path="a\\rb"\n"RETR a\\\\rb"\n"127,0,0,1,195,80"\n'
 
 
 def check_memory(preload, program):
@@ -106,7 +107,8 @@ def check_memory(preload, program):
     return f"{errors} times out of memory, and {ended} times in Rust itself"
 
 
-CALLS = ['parse\t"NOOP\\r\\n"', 'encode\tmsg\t200\t"OK"', 'read\t"220 a\\r\\n"', 'canonical\t"NOOP\\r\\n"', 'forward\t"NOOP\\r\\n"']
+CALLS = ['parse\t"NOOP\\r\\n"', 'encode\tmsg\t200\t"OK"', 'read\t"220 a\\r\\n"', 'canonical\t"NOOP\\r\\n"', 'forward\t"NOOP\\r\\n"',
+         'read_address\tPORT\t""', "write_address\t229\t-\t1"]
 
 
 def check_version(program):

@@ -24,7 +24,7 @@ pub enum Error {
 }
 
 impl Error {
-    /// The error of what `unftp_reply`, `unftp_canonical` or `unftp_forward` returns.
+    /// The error of what a call that writes to an area returns.
     pub(crate) fn of_status(status: u32) -> Error {
         match status {
             ffi::OUT_OF_MEMORY => Error::OutOfMemory,
@@ -32,8 +32,9 @@ impl Error {
             _ => match Refusal::of_status(status) {
                 Some(refusal) => Error::Refused(refusal),
                 None => unreachable!(
-                    "`EncodesReply`, `IsCanonical` and `IsForwardedLine` leave no status {status} \
-                     for a code from 100 to 599 and a text that is UTF-8"
+                    "`EncodesReply`, `IsCanonical`, `IsForwardedLine` and `IsWrittenBy` leave no \
+                     status {status} for a code from 100 to 599, a text that is UTF-8, and an \
+                     address of its form's length"
                 ),
             },
         }

@@ -26,6 +26,8 @@ pub(crate) const NO_ROOM: u32 = 107;
 pub(crate) const NO_LINE: u32 = 108;
 pub(crate) const MALFORMED: u32 = 109;
 pub(crate) const INVALID_ARGUMENT: u32 = 111;
+pub(crate) const NO_ADDRESS: u32 = 112;
+pub(crate) const UNKNOWN_PROTOCOL: u32 = 113;
 
 /// What `unftp_client_reply` returns.
 pub(crate) const TO_GREETING: u32 = 0;
@@ -38,6 +40,12 @@ pub(crate) const LOGIN_NEED_PASSWORD: u32 = 1;
 pub(crate) const LOGIN_ASK_ACCOUNTS: u32 = 2;
 pub(crate) const LOGIN_NEED_NAME: u32 = 3;
 pub(crate) const LOGIN_NEED_LOGIN: u32 = 4;
+
+/// What `unftp_read_address` and `unftp_write_address` are told of a text.
+pub(crate) const ADDRESS_PORT: u32 = 0;
+pub(crate) const ADDRESS_EPRT: u32 = 1;
+pub(crate) const ADDRESS_227: u32 = 2;
+pub(crate) const ADDRESS_229: u32 = 3;
 
 /// `struct unftp_connection`.
 #[repr(C)]
@@ -82,6 +90,14 @@ pub(crate) struct Client {
 #[derive(Clone, Debug, Default)]
 pub(crate) struct Login {
     pub(crate) stage: u32,
+}
+
+/// `struct unftp_address`.
+#[repr(C)]
+#[derive(Default)]
+pub(crate) struct Address {
+    pub(crate) ip_len: usize,
+    pub(crate) port: u32,
 }
 
 /// The name of a call in the text of `generated/`: `unftp_0_1_0_next` for `unftp_next`.
@@ -178,6 +194,27 @@ extern "C" {
 
     #[cfg_attr(not(feature = "system"), link_name = own_name!("login_answer"))]
     fn unftp_login_answer(login: *mut Login, accepted: u32) -> u32;
+
+    #[cfg_attr(not(feature = "system"), link_name = own_name!("read_address"))]
+    fn unftp_read_address(
+        form: u32,
+        text: *const u8,
+        text_len: usize,
+        ip: *mut u8,
+        ip_room: usize,
+        address: *mut Address,
+    ) -> u32;
+
+    #[cfg_attr(not(feature = "system"), link_name = own_name!("write_address"))]
+    fn unftp_write_address(
+        form: u32,
+        ip: *const u8,
+        ip_len: usize,
+        port: u32,
+        out: *mut u8,
+        out_room: usize,
+        len: *mut usize,
+    ) -> u32;
 
     #[cfg_attr(not(feature = "system"), link_name = own_name!("version"))]
     fn unftp_version() -> u32;
@@ -331,6 +368,39 @@ pub(crate) fn login_answer(login: &mut Login, accepted: bool) -> u32 {
     check_version();
     // SAFETY: the pointer is of a mutable reference, and the struct has the header's form.
     unsafe { unftp_login_answer(login, u32::from(accepted)) }
+}
+
+/// Calls `unftp_read_address`: what it returns, and the address.
+pub(crate) fn read_address(form: u32, text: &[u8], ip: &mut [u8]) -> (u32, Address) {
+    check_version();
+    let mut address = Address::default();
+    // SAFETY: no pointer is null, since each is of a reference, and each length is that of the
+    // slice beside it. Nothing overlaps: `ip` is mutably borrowed, and `address` is a variable of
+    // this function, and has the header's form.
+    let status = unsafe {
+        unftp_read_address(form, text.as_ptr(), text.len(), ip.as_mut_ptr(), ip.len(), &mut address)
+    };
+    (status, address)
+}
+
+/// Calls `unftp_write_address`: what it returns, and the length.
+pub(crate) fn write_address(form: u32, ip: &[u8], port: u16, out: &mut [u8]) -> (u32, usize) {
+    check_version();
+    let (port, mut len) = (u32::from(port), 0);
+    // SAFETY: no pointer is null, since each is of a reference, and each length is that of the
+    // slice beside it. Nothing overlaps: `out` is mutably borrowed, and `len` is a variable here.
+    let status = unsafe {
+        unftp_write_address(
+            form,
+            ip.as_ptr(),
+            ip.len(),
+            port,
+            out.as_mut_ptr(),
+            out.len(),
+            &mut len,
+        )
+    };
+    (status, len)
 }
 
 /// Calls `unftp_version`.

@@ -55,6 +55,13 @@
 //! [greeting](Client::is_greeted) is complete, [`owed`](Client::owed) is 0, and the proxy has passed
 //! on each reply that it has taken.
 //!
+//! # Data connections
+//!
+//! [`read_host_port`] and [`read_extended`] read what PORT and EPRT name, [`find_host_port`] and
+//! [`find_extended_port`] what a reply 227 and 229 names, and [`host_port`] and [`extended`] write
+//! it; [`Reply::passive`] and [`Reply::extended_passive`] are those replies. Whose address it may be
+//! is the caller's to decide (RFC 2577): [`read_host_port`] says how.
+//!
 //! # Linking
 //!
 //! The machine code is assembly text that Rattle's toolchain made of the proved library, for Linux on
@@ -86,6 +93,7 @@
 //! out of memory ends the process. Nothing wipes a password.
 #![deny(missing_docs, unreachable_pub, unsafe_code)]
 
+mod address;
 mod area;
 #[cfg(not(feature = "system"))]
 #[allow(unsafe_code)]
@@ -117,6 +125,10 @@ mod shown;
 mod version;
 
 pub use crate::bytes::{Password, RawBytes};
+pub use address::{
+    extended, extended_port, find_extended_port, find_host_port, host_port, read_extended,
+    read_host_port, AddressError,
+};
 pub use canonical::{canonical, forward, is_clear};
 pub use client::{Client, ClientReply, ReplyValue, SendError, To};
 pub use code::{ReplyCode, UnknownCode};

@@ -1,9 +1,11 @@
+use crate::address::{extended_port, host_port};
 use crate::area::written;
 use crate::code::ReplyCode;
 use crate::error::Error;
 use crate::ffi;
 use std::borrow::Cow;
 use std::iter;
+use std::net::SocketAddrV4;
 
 /// A reply of a server (RFC 959, section 4.2): a code, and a text of one line or of several.
 ///
@@ -51,6 +53,42 @@ impl Reply {
             text.push_str(line.as_ref());
         }
         Reply::new(code, text)
+    }
+
+    /// The reply to PASV of a server that listens at this address (RFC 959, section 4.1.2).
+    ///
+    /// ```
+    /// use unftp_control::Reply;
+    ///
+    /// let reply = Reply::passive("127.0.0.1:50000".parse()?)?;
+    /// assert_eq!(reply.to_bytes()?, b"227 Entering Passive Mode (127,0,0,1,195,80).\r\n");
+    /// # Ok::<(), Box<dyn std::error::Error>>(())
+    /// ```
+    ///
+    /// # Errors
+    ///
+    /// [`Error::OutOfMemory`].
+    pub fn passive(address: SocketAddrV4) -> Result<Reply, Error> {
+        let text = format!("Entering Passive Mode ({}).", host_port(address)?);
+        Ok(Reply::new(ReplyCode::ENTERING_PASSIVE_MODE, text))
+    }
+
+    /// The reply to EPSV of a server that listens at this port (RFC 2428, section 3).
+    ///
+    /// ```
+    /// use unftp_control::Reply;
+    ///
+    /// let reply = Reply::extended_passive(6446)?;
+    /// assert_eq!(reply.to_bytes()?, b"229 Entering Extended Passive Mode (|||6446|)\r\n");
+    /// # Ok::<(), unftp_control::Error>(())
+    /// ```
+    ///
+    /// # Errors
+    ///
+    /// [`Error::OutOfMemory`].
+    pub fn extended_passive(port: u16) -> Result<Reply, Error> {
+        let text = format!("Entering Extended Passive Mode {}", extended_port(port)?);
+        Ok(Reply::new(ReplyCode::ENTERING_EXTENDED_PASSIVE_MODE, text))
     }
 
     /// Its code.

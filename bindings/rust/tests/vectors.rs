@@ -1,6 +1,7 @@
 //! The vector files through the crate.
 mod common;
 
+use common::shown::{quoted, shown_read, written_address};
 use common::{
     bytes, calls, limit, pieces, shown_decoded, shown_event, shown_reply, sizes, without_lefts,
 };
@@ -311,4 +312,38 @@ fn each_canonical_line_means_the_same() {
             Err(error) => panic!("{words:?}: {error}"),
         }
     }
+}
+
+#[test]
+fn each_address_is_read_or_not() {
+    for (words, answer) in calls("addresses.tsv", &["read_address"]) {
+        assert_eq!(shown_read(&words[0], &bytes(&words[1])), Some(answer), "{words:?}");
+    }
+}
+
+#[test]
+fn each_address_is_written() {
+    for (words, answer) in calls("addresses.tsv", &["write_address"]) {
+        let port = words[2].parse().expect("a port is a number");
+        let text = written_address(&words[0], &words[1], port).expect("a host of this form");
+        assert_eq!(text.map(|text| quoted(text.as_bytes())), Ok(answer), "{words:?}");
+    }
+}
+
+#[test]
+fn each_address_is_read_back() {
+    let mut texts = 0;
+    for (words, answer) in calls("addresses.tsv", &["read_address"]) {
+        let fields = answer.strip_prefix("ip=").and_then(|fields| fields.split_once(" port="));
+        let Some((host, port)) = fields else { continue };
+        for form in ["PORT", "EPRT", "227", "229"] {
+            let port = port.parse().expect("a port is a number");
+            let Some(text) = written_address(form, host, port) else { continue };
+            let text = text.expect("memory is there");
+            let wanted = if form == "229" { format!("port={port}") } else { answer.clone() };
+            assert_eq!(shown_read(form, text.as_bytes()), Some(wanted), "{words:?}");
+            texts += 1;
+        }
+    }
+    assert!(texts > 200, "{texts} texts");
 }

@@ -1,13 +1,13 @@
 //! Answers the cases of a vector file (`vectors/README.md`): reads one a line from standard input,
 //! and writes its answer. It has the calls `parse`, `decode`, `encode`, `read`, `canonical`,
-//! `forward` and `log`. A case that its call doesn't take is answered by `skipped`, and what is no case by
-//! `bad-case`.
+//! `forward`, `log`, `read_address` and `write_address`. A case that its call doesn't take is
+//! answered by `skipped`, and what is no case by `bad-case`.
 
 mod cases;
 mod shown;
 
 use cases::{is_one_line, read_bytes, read_reply};
-use shown::{quoted, shown, shown_refusal, shown_refusals};
+use shown::{quoted, shown, shown_read, shown_refusal, shown_refusals, written_address};
 use std::io::{self, BufRead, Write};
 use std::process::ExitCode;
 use unftp_control::{canonical, forward, front_reply, Error, Event, FrontReply, Pending};
@@ -26,6 +26,11 @@ fn answer(case: &str) -> Option<Answer> {
         ["canonical", line] => answer_written(canonical(&read_bytes(line)?)),
         ["forward", line] => answer_written(forward(&read_bytes(line)?)),
         ["log", limit, line] => answer_log(limit, &read_bytes(line)?),
+        ["read_address", form, text] => Ok(shown_read(form, &read_bytes(text)?)),
+        ["write_address", form, host, port] => {
+            let written = written_address(form, host, port.parse().ok()?)?;
+            written.map(|text| Some(quoted(text.as_bytes())))
+        }
         _ => return None,
     })
 }

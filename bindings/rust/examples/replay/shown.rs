@@ -1,5 +1,9 @@
-//! Commands and refusals as the vector files write them.
-use unftp_control::{Command, Refusal};
+//! Commands, refusals and addresses as the vector files write them.
+use std::net::{IpAddr, SocketAddr, SocketAddrV4};
+use unftp_control::{
+    extended, extended_port, find_extended_port, find_host_port, host_port, read_extended,
+    read_host_port, AddressError, Command, Error, Refusal,
+};
 
 /// The bytes between quotes, in ASCII: what is printable as it is, and all else escaped.
 pub fn quoted(bytes: &[u8]) -> String {
@@ -95,5 +99,43 @@ pub fn shown_refusals(refusal: Refusal) -> &'static str {
         Refusal::InvalidEol => "InvalidCommand InvalidEol",
         Refusal::LineTooLong => "LineTooLong",
         _ => "another refusal",
+    }
+}
+
+/// What a text of this form is read as; `None` where there is no such form.
+pub fn shown_read(form: &str, text: &[u8]) -> Option<String> {
+    let address = match form {
+        "PORT" => read_host_port(text).map(SocketAddr::V4).ok_or(AddressError::Malformed),
+        "EPRT" => read_extended(text),
+        "227" => find_host_port(text).map(SocketAddr::V4).ok_or(AddressError::Malformed),
+        "229" => return Some(shown_port(find_extended_port(text))),
+        _ => return None,
+    };
+    Some(match address {
+        Ok(address) => format!("ip={} port={}", shown_ip(address.ip()), address.port()),
+        Err(AddressError::Malformed) => "none".to_string(),
+        Err(AddressError::UnknownProtocol) => "unknown-protocol".to_string(),
+    })
+}
+
+fn shown_port(port: Option<u16>) -> String {
+    port.map_or("none".to_string(), |port| format!("port={port}"))
+}
+
+/// A host with all of its numbers.
+fn shown_ip(ip: IpAddr) -> String {
+    match ip {
+        IpAddr::V4(ip) => ip.octets().map(|octet| octet.to_string()).join("."),
+        IpAddr::V6(ip) => ip.segments().map(|segment| format!("{segment:x}")).join(":"),
+    }
+}
+
+/// The text of this form for a host and a port; `None` where it has no host of this kind.
+pub fn written_address(form: &str, host: &str, port: u16) -> Option<Result<String, Error>> {
+    match (form, host.parse()) {
+        ("PORT" | "227", Ok(IpAddr::V4(ip))) => Some(host_port(SocketAddrV4::new(ip, port))),
+        ("EPRT", Ok(ip)) => Some(extended(SocketAddr::new(ip, port))),
+        ("229", _) => Some(extended_port(port)),
+        _ => None,
     }
 }
