@@ -6,6 +6,8 @@ usage: tools/checks/embedding.py sessions|session SERVER..        the replies of
        tools/checks/embedding.py answers REPLAY.. FILE SKIPPED      the answers to a vector file, of which so many may be skipped
        tools/checks/embedding.py worked REPLAY..                    the answers to the rows by hand whose call REPLAY has
        tools/checks/embedding.py read|canonical|forward REPLAY..    the replies that servers wrote; the lines that are written for clients' lines
+       tools/checks/embedding.py addresses REPLAY..                 the addresses of the rows by hand, which are also written and read back; and
+                                                             those that servers named
        tools/checks/embedding.py valgrind LOG..                     whether each process ended without an error
        tools/checks/embedding.py numbers                            the numbers of the header and of bindings/rust are the definition's, and those
                                                              of replies also the documents'
@@ -353,8 +355,46 @@ def check_forward(*program):
     return f"{read_back(program, 'forward')}, {len(asked)} rows compared"
 
 
-# the vector files with lines and streams that clients sent, and those with texts of replies
-INPUT_FILES = [*LINE_FILES, "decode.tsv", "client_streams.tsv", "encode.tsv"]
+# what shows the address in the replies 227 and 229 of real servers
+SHOWN = {b"227": rb"\((\d+),(\d+),(\d+),(\d+),(\d+),(\d+)\)", b"229": rb"\(\|\|\|(\d+)\|\)"}
+
+
+def named_addresses():
+    """The last lines of the replies 227 and 229 that servers wrote, as cases with the address that each shows."""
+    for name in ["server_replies.tsv", "connections.tsv"]:
+        for case, _ in rows(name):
+            words = case.split("\t")
+            written = b"".join(unquoted(word) for before, word in zip(words, words[1:]) if before != "send" and word.startswith('"'))
+            for code, text in re.findall(rb"^(227|229) (.*)\r$", written, re.M):
+                numbers = [int(number) for number in re.search(SHOWN[code], text).groups()]
+                *host, port = [*numbers[:4], 256 * numbers[4] + numbers[5]] if code == b"227" else numbers
+                host = f"ip={'.'.join(map(str, host))} " if host else ""
+                yield f"read_address\t{code.decode()}\t{quoted(text)}", f"{host}port={port}"
+
+
+def written_addresses(answers):
+    """The calls that write the addresses of these answers, each with what the text is read as: in each form that has such a host."""
+    found = [re.fullmatch(r"(?:ip=(\S+) )?port=(\d+)", answer) for answer in answers]
+    for answer, host, port in dict.fromkeys((read[0], *read.groups()) for read in found if read):
+        yield f"write_address\t229\t-\t{port}", f"port={port}"
+        for form in [] if host is None else ["PORT", "227", "EPRT"] if "." in host else ["EPRT"]:
+            yield f"write_address\t{form}\t{host}\t{port}", answer
+
+
+def check_addresses(*program):
+    """The rows by hand; what is written for each of their addresses; and what servers named."""
+    by_hand, named = rows("addresses.tsv"), [*named_addresses()]
+    calls, wanted = zip(*written_addresses([answer for _, answer in by_hand]))
+    texts = answers_of(program, calls)
+    read_back = [(f"read_address\t{call.split()[1]}\t{text}", answer) for call, text, answer in zip(calls, texts, wanted)]
+    for found in [by_hand, read_back, named]:
+        cases, expected = zip(*found)
+        wants("the number of rows that are compared", compare(cases, answers_of(program, cases), expected), len(cases))
+    return f"{len(by_hand)} rows, {len(read_back)} texts read back, {len(named)} replies of servers"
+
+
+# the vector files with lines and streams that clients sent, and those with texts of replies and of addresses
+INPUT_FILES = [*LINE_FILES, "decode.tsv", "client_streams.tsv", "encode.tsv", "addresses.tsv"]
 
 
 # the lengths of long texts; under valgrind, of which only the first
@@ -733,6 +773,7 @@ CHECKS = {
     "read": check_read,
     "canonical": check_canonical,
     "forward": check_forward,
+    "addresses": check_addresses,
     "valgrind": check_valgrind,
     "numbers": check_numbers,
     "structs": check_structs,

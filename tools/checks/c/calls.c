@@ -3,9 +3,9 @@
  * it, as four bytes with the least first. Checks what the header says of rooms and lengths: each
  * call with no room at all, with one byte less than it asks for, and with enough; the bounds on
  * what it asks for; what it leaves as it was; and that what is written is read back. Checks by
- * tables what it says of replies, log lines, clients and logins. Each area has no byte more than
- * its call is told, so that valgrind finds what is written past it. Prints how many inputs there
- * were, and of what kind.
+ * tables what it says of replies, log lines, clients, logins and addresses. Each area has no byte
+ * more than its call is told, so that valgrind finds what is written past it. Prints how many
+ * inputs there were, and of what kind.
  */
 #include <unftp_control.h>
 
@@ -14,7 +14,12 @@
 #include <stdlib.h>
 #include <string.h>
 
-enum { FILLING = '.' };
+enum {
+    FILLING = '.',
+
+    /* how many bytes the longest address has */
+    LONGEST_ADDRESS = 49
+};
 
 struct bytes {
     char *at;
@@ -26,6 +31,13 @@ struct taken {
     enum unftp_result result;
     struct unftp_line line;
     struct bytes area;
+};
+
+/* What was read of a text: the host is in the area. */
+struct read {
+    enum unftp_result result;
+    struct unftp_address address;
+    struct bytes host;
 };
 
 typedef enum unftp_result (*line_call)(const char *, size_t, char *, size_t, size_t *);
@@ -49,7 +61,7 @@ struct event {
 };
 
 static const struct bytes *current;
-static unsigned long inputs, commands, refused, replies;
+static unsigned long inputs, commands, refused, replies, addresses;
 
 static void wants(bool holds, const char *what)
 {
@@ -678,6 +690,209 @@ static void check_events(void)
         check_event(number);
 }
 
+/* How many bytes the host of a form has at most: that of EPRT may have four, too. */
+static size_t host_len(uint32_t form)
+{
+    switch (form) {
+    case UNFTP_ADDRESS_EPRT: return 16;
+    case UNFTP_ADDRESS_229: return 0;
+    default: return 4;
+    }
+}
+
+static bool has_host(uint32_t form, size_t len)
+{
+    return len == host_len(form) || (form == UNFTP_ADDRESS_EPRT && len == 4);
+}
+
+/* Reads an address where so many bytes of room are too few, or the text has none. */
+static void read_nothing(uint32_t form, struct bytes text, size_t room, struct read wanted)
+{
+    struct bytes host = area_of(room);
+    struct unftp_address address;
+
+    wants(unftp_read_address(form, text.at, text.len, host.at, room, &address) == wanted.result
+              && address.ip_len == wanted.address.ip_len && address.port == wanted.address.port
+              && is_filling(host),
+          "a text without an address, or a host without room, changes no byte");
+    free_area(host);
+}
+
+/* Reads an address with more room than its host needs. */
+static void read_into_more(uint32_t form, struct bytes text, struct read wanted)
+{
+    struct bytes host = area_of(wanted.address.ip_len + 3), rest = {host.at + host.len - 3, 3};
+    struct unftp_address address;
+
+    wants(unftp_read_address(form, text.at, text.len, host.at, host.len, &address) == UNFTP_DONE
+              && address.ip_len == wanted.address.ip_len && address.port == wanted.address.port
+              && memcmp(host.at, wanted.host.at, address.ip_len) == 0 && is_filling(rest),
+          "a host is at the start of its area, and no byte after it changes");
+    free_area(host);
+}
+
+/* Reads an address with just enough room. */
+static struct read read_address(uint32_t form, struct bytes text)
+{
+    struct read read;
+
+    read.host = area_of(0);
+    read.result = unftp_read_address(form, text.at, text.len, read.host.at, 0, &read.address);
+    if (read.result == UNFTP_NO_ROOM) {
+        wants(read.address.ip_len > 0, "a host that needs no room has it");
+        read_nothing(form, text, read.address.ip_len - 1, read);
+        free_area(read.host);
+        read.host = area_of(read.address.ip_len);
+        read.result = unftp_read_address(form, text.at, text.len, read.host.at, read.host.len,
+                                         &read.address);
+        wants(read.result == UNFTP_DONE && read.host.len == read.address.ip_len,
+              "a host has just enough room");
+    }
+    if (read.result == UNFTP_DONE) {
+        wants(has_host(form, read.address.ip_len) && read.address.port <= UINT16_MAX,
+              "an address has the host of its form, and a port");
+        read_into_more(form, text, read);
+    } else {
+        wants(read.result == UNFTP_NO_ADDRESS
+                  || (read.result == UNFTP_UNKNOWN_PROTOCOL && form == UNFTP_ADDRESS_EPRT),
+              "why a text has no address");
+        wants(read.address.ip_len == 0 && read.address.port == 0, "no address, and no port");
+        read_nothing(form, text, 16, read);
+    }
+    return read;
+}
+
+/* Writes an address with just enough room. */
+static struct bytes written_address(uint32_t form, struct bytes host, uint32_t port)
+{
+    struct bytes none = area_of(0), less, out;
+    size_t room, again;
+
+    wants(unftp_write_address(form, host.at, host.len, port, none.at, 0, &room) == UNFTP_NO_ROOM
+              && room > 0 && room <= LONGEST_ADDRESS,
+          "an address needs no more room than the header says");
+    free_area(none);
+    less = area_of(room - 1);
+    wants(unftp_write_address(form, host.at, host.len, port, less.at, room - 1, &again)
+                  == UNFTP_NO_ROOM
+              && again == room && is_filling(less),
+          "an address needs this room");
+    free_area(less);
+    out = area_of(room);
+    wants(unftp_write_address(form, host.at, host.len, port, out.at, room, &again) == UNFTP_DONE
+              && again == room,
+          "an address has just enough room");
+    return out;
+}
+
+/* An address is written for each form that has such a host, and read back; a 229 has any. */
+static void check_read_back(struct bytes host, uint32_t port)
+{
+    for (uint32_t form = 0; form <= UNFTP_ADDRESS_229; form++) {
+        struct bytes text;
+        struct read read;
+        if (form != UNFTP_ADDRESS_229 && !has_host(form, host.len))
+            continue;
+        text = written_address(form, host, port);
+        read = read_address(form, text);
+        wants(read.result == UNFTP_DONE && read.address.port == port
+                  && read.address.ip_len == (form == UNFTP_ADDRESS_229 ? 0 : host.len)
+                  && memcmp(read.host.at, host.at, read.address.ip_len) == 0,
+              "what is written is read back");
+        free_area(read.host);
+        free_area(text);
+    }
+}
+
+/* Reads an input in each form. */
+static void check_addresses(struct bytes input)
+{
+    for (uint32_t form = 0; form <= UNFTP_ADDRESS_229; form++) {
+        struct read read = read_address(form, input);
+        if (read.result == UNFTP_DONE) {
+            check_read_back(read.host, read.address.port);
+            addresses++;
+        }
+        free_area(read.host);
+    }
+}
+
+/* What is written at the bounds, of which one is the longest: each byte of a host is the same. */
+static void check_bounds(void)
+{
+    static const struct {
+        uint32_t form;
+        int byte;
+        size_t len;
+        uint32_t port;
+        const char *text;
+    } bounds[] = {
+        {UNFTP_ADDRESS_PORT, 0, 4, 0, "0,0,0,0,0,0"},
+        {UNFTP_ADDRESS_PORT, 255, 4, 65535, "255,255,255,255,255,255"},
+        {UNFTP_ADDRESS_227, 0, 4, 255, "0,0,0,0,0,255"},
+        {UNFTP_ADDRESS_227, 255, 4, 256, "255,255,255,255,1,0"},
+        {UNFTP_ADDRESS_EPRT, 0, 4, 0, "|1|0.0.0.0|0|"},
+        {UNFTP_ADDRESS_EPRT, 255, 4, 65535, "|1|255.255.255.255|65535|"},
+        {UNFTP_ADDRESS_EPRT, 0, 16, 0, "|2|::|0|"},
+        {UNFTP_ADDRESS_EPRT, 255, 16, 65535, "|2|ffff:ffff:ffff:ffff:ffff:ffff:ffff:ffff|65535|"},
+        {UNFTP_ADDRESS_229, 0, 0, 0, "(|||0|)"},
+        {UNFTP_ADDRESS_229, 255, 17, 65535, "(|||65535|)"},
+    };
+    size_t longest = 0;
+
+    for (size_t at = 0; at < sizeof bounds / sizeof bounds[0]; at++) {
+        struct bytes host = area_of(bounds[at].len), text;
+        memset(host.at, bounds[at].byte, host.len);
+        text = written_address(bounds[at].form, host, bounds[at].port);
+        wants(is_text(text, bounds[at].text), bounds[at].text);
+        check_read_back(host, bounds[at].port);
+        longest = text.len > longest ? text.len : longest;
+        free_area(text);
+        free_area(host);
+    }
+    wants(longest == LONGEST_ADDRESS, "the longest address needs the room that the header says");
+}
+
+/* Nothing is written for an address that its form can't have. */
+static void check_not_written(uint32_t form, size_t len, uint32_t port)
+{
+    struct bytes host = area_of(len), out = area_of(LONGEST_ADDRESS);
+    size_t written = 1;
+
+    wants(unftp_write_address(form, host.at, len, port, out.at, out.len, &written)
+                  == UNFTP_INVALID_ARGUMENT
+              && written == 0 && is_filling(out),
+          "no such form, length or port");
+    free_area(out);
+    free_area(host);
+}
+
+/* Forms, lengths and ports that no address has. */
+static void check_address_arguments(void)
+{
+    static const uint32_t forms[] = {4, 5, 227, 229, 256, UINT32_MAX},
+                          ports[] = {65536, 131071, UINT32_MAX};
+    const struct read invalid = {UNFTP_INVALID_ARGUMENT, {0, 0}, {NULL, 0}};
+    struct bytes text = area_of(3);
+
+    for (size_t at = 0; at < sizeof forms / sizeof forms[0]; at++) {
+        read_nothing(forms[at], text, 0, invalid);
+        read_nothing(forms[at], text, 16, invalid);
+        check_not_written(forms[at], 4, 1);
+    }
+    for (uint32_t form = 0; form < UNFTP_ADDRESS_229; form++) {
+        for (size_t len = 0; len <= 32; len++) {
+            if (!has_host(form, len))
+                check_not_written(form, len, 1);
+        }
+    }
+    for (size_t at = 0; at < sizeof ports / sizeof ports[0]; at++) {
+        for (uint32_t form = 0; form <= UNFTP_ADDRESS_229; form++)
+            check_not_written(form, host_len(form), ports[at]);
+    }
+    free_area(text);
+}
+
 /* What no call leaves, and no code. */
 static void check_arguments(void)
 {
@@ -731,13 +946,16 @@ int main(void)
     check_not_noted();
     check_login();
     check_events();
+    check_bounds();
+    check_address_arguments();
     while (read_input(&input)) {
         inputs++;
         check_lines(input);
         check_reply(input);
+        check_addresses(input);
         free_area(input);
     }
-    printf("%lu inputs: %lu commands, %lu refused lines, %lu replies\n", inputs, commands, refused,
-           replies);
+    printf("%lu inputs: %lu commands, %lu refused lines, %lu replies, %lu addresses\n", inputs,
+           commands, refused, replies, addresses);
     return EXIT_SUCCESS;
 }

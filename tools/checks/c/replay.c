@@ -6,6 +6,7 @@
 #define _POSIX_C_SOURCE 200809L
 #include <unftp_control.h>
 
+#include <arpa/inet.h>
 #include <stdbool.h>
 #include <stdio.h>
 #include <stdlib.h>
@@ -71,6 +72,15 @@ static const struct {
     {UNFTP_INVALID_UTF8, "Utf8Error ", "InvalidUtf8"},
     {UNFTP_INVALID_EOL, "InvalidCommand ", "InvalidEol"},
     {UNFTP_LINE_TOO_LONG, "", "LineTooLong"},
+};
+
+/* The forms of addresses. */
+static const struct {
+    const char *name;
+    enum unftp_address_form form;
+} forms[] = {
+    {"PORT", UNFTP_ADDRESS_PORT}, {"EPRT", UNFTP_ADDRESS_EPRT},
+    {"227", UNFTP_ADDRESS_227}, {"229", UNFTP_ADDRESS_229},
 };
 
 static void fail(const char *why)
@@ -452,13 +462,83 @@ static bool answer_client(struct words *words)
     return true;
 }
 
+/* The form of this name, and whether there is one. */
+static bool find_form(const char *name, uint32_t *form)
+{
+    for (size_t at = 0; at < sizeof forms / sizeof *forms; at++) {
+        if (strcmp(forms[at].name, name) == 0) {
+            *form = (uint32_t)forms[at].form;
+            return true;
+        }
+    }
+    return false;
+}
+
+/* Shows a host with all of its numbers. */
+static void show_host(const unsigned char *ip, size_t len)
+{
+    if (len == 4)
+        printf("ip=%u.%u.%u.%u ", ip[0], ip[1], ip[2], ip[3]);
+    for (size_t at = 0; len == 16 && at < len; at += 2)
+        printf("%s%x%s", at == 0 ? "ip=" : ":", ip[at] * 256u + ip[at + 1], at == 14 ? " " : "");
+}
+
+static bool answer_read_address(struct words *words)
+{
+    unsigned char ip[16];
+    struct unftp_address address;
+    enum unftp_result result;
+    uint32_t form;
+
+    if (words->count != 2 || !find_form(words->at[0], &form) || !unquote_from(words, 1))
+        return false;
+    result = unftp_read_address(form, words->bytes[1].at, words->bytes[1].len, (char *)ip,
+                                sizeof ip, &address);
+    if (result == UNFTP_DONE) {
+        show_host(ip, address.ip_len);
+        printf("port=%u", (unsigned)address.port);
+    } else if (result == UNFTP_NO_ADDRESS) {
+        fputs("none", stdout);
+    } else if (result == UNFTP_UNKNOWN_PROTOCOL) {
+        fputs("unknown-protocol", stdout);
+    } else {
+        fail(unftp_result_text(result));
+    }
+    return true;
+}
+
+/* The bytes of a host: how many they are, or 0 for a word that is none. */
+static size_t read_host(const char *word, char *ip)
+{
+    if (inet_pton(AF_INET, word, ip) == 1)
+        return 4;
+    return inet_pton(AF_INET6, word, ip) == 1 ? 16 : 0;
+}
+
+static bool answer_write_address(struct words *words)
+{
+    char ip[16], out[64];
+    struct bytes text = {out, 0};
+    uint32_t form;
+
+    if (words->count != 3 || !find_form(words->at[0], &form)
+        || unftp_write_address(form, ip, read_host(words->at[1], ip),
+                               (uint32_t)strtoul(words->at[2], NULL, 10), out, sizeof out,
+                               &text.len)
+            != UNFTP_DONE)
+        return false;
+    show_quoted(text);
+    return true;
+}
+
 static const struct {
     const char *name;
     bool (*answer)(struct words *);
 } calls[] = {
     {"parse", answer_parse}, {"decode", answer_decode}, {"encode", answer_encode},
     {"read", answer_read}, {"canonical", answer_canonical}, {"forward", answer_forward},
-    {"log", answer_log}, {"client", answer_client},
+    {"log", answer_log}, {"client", answer_client}, {"read_address", answer_read_address},
+    {"write_address", answer_write_address},
 };
 
 /* The word at the start of a row, and what follows its tab. */

@@ -41,6 +41,8 @@ enum {
     CLIENT_MAY_BEGIN_TLS,
     LOGIN_EVENT,
     LOGIN_ANSWER,
+    READ_ADDRESS,
+    WRITE_ADDRESS,
     VERSION,
     CALLS
 };
@@ -65,6 +67,8 @@ static const char *const names[CALLS] = {
     "unftp_client_may_begin_tls",
     "unftp_login_event",
     "unftp_login_answer",
+    "unftp_read_address",
+    "unftp_write_address",
     "unftp_version",
 };
 static size_t most[CALLS];
@@ -79,6 +83,7 @@ static struct unftp_login login;
 static enum unftp_result result;
 static struct unftp_line line;
 static struct unftp_found_reply reply;
+static struct unftp_address address;
 static struct bytes area;
 static size_t len;
 static uint64_t place;
@@ -104,6 +109,19 @@ static void call_with_state(int name, struct bytes input, size_t room)
     }
 }
 
+/* Reads or writes an address, of the next form at each input: for EPRT one of IPv4 or of IPv6. */
+static void call_with_address(int name, struct bytes input, size_t room)
+{
+    static const char host[16] = "\x20\x01\x0d\xb8\xff\xfe\xfd\xfc\xfb\xfa\xf9\xf8\xf7\xf6\xf5";
+    uint32_t form = (uint32_t)(inputs % 4);
+    size_t host_len = form == UNFTP_ADDRESS_EPRT && inputs % 8 < 4 ? 16 : 4;
+
+    if (name == READ_ADDRESS)
+        unftp_read_address(form, input.at, input.len, area.at, room, &address);
+    else
+        unftp_write_address(form, host, host_len, (uint32_t)(inputs % 65536), area.at, room, &len);
+}
+
 static void call(int name, struct bytes input, size_t room)
 {
     struct unftp_connection connection = {0, 0, 0};
@@ -119,6 +137,7 @@ static void call(int name, struct bytes input, size_t room)
     case FORWARD: unftp_forward(input.at, input.len, area.at, room, &len); break;
     case IS_CLEAR: unftp_is_clear(input.at, input.len); break;
     case LOG_LINE: unftp_log_line(result, input.at, input.len, area.at, room, &len); break;
+    case READ_ADDRESS: case WRITE_ADDRESS: call_with_address(name, input, room); break;
     case VERSION: unftp_version(); break;
     default: call_with_state(name, input, room); break;
     }
