@@ -258,21 +258,17 @@ static void ask_size(struct session *session, const char *path, struct progress 
     progress->has_size = digits == used - before - after;
 }
 
-/* The port of a reply, which has (|||port|), with any one byte for each of the bars. */
+/* The port that the reply to EPSV names; it names no host. */
 static unsigned port_in(const struct session *session)
 {
-    const char *end = session->bytes + session->reply.used,
-               *at = memchr(session->bytes, '(', session->reply.used);
-    uint64_t port;
-    size_t digits;
+    char host[1];
+    struct unftp_address address;
+    enum unftp_result result = unftp_read_address(UNFTP_ADDRESS_229, session->bytes,
+                                                  session->reply.used, host, 0, &address);
 
-    if (at == NULL || end - at < 7 || at[1] != at[2] || at[1] != at[3])
+    if (result != UNFTP_DONE || address.port == 0)
         fail_reply(session, "no port");
-    digits = read_number(at + 4, (size_t)(end - at) - 6, &port);
-    if (digits == 0 || port == 0 || port > UINT16_MAX || at[4 + digits] != at[1]
-        || at[5 + digits] != ')')
-        fail_reply(session, "no port");
-    return (unsigned)port;
+    return (unsigned)address.port;
 }
 
 /* Opens a data connection to the port that the server names, at its address. */

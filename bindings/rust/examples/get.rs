@@ -8,7 +8,7 @@ use std::io::{self, Read, Write};
 use std::net::TcpStream;
 use std::process::ExitCode;
 use std::time::Duration;
-use unftp_control::{Client, Command, Password, To};
+use unftp_control::{find_extended_port, Client, Command, Password, To};
 
 /// How long the server may take for anything.
 const PATIENCE: Duration = Duration::from_secs(60);
@@ -122,9 +122,9 @@ impl Control {
     /// Where the server listens for the data connection.
     fn passive_port(&mut self) -> Outcome<u16> {
         let answer = self.ask(&Command::Epsv)?.wanted(&[2], "no passive mode")?;
-        match port_in(&answer.text) {
-            Some(port) => Ok(port),
-            None => Err(format!("no port: {} {}", answer.code, answer.text).into()),
+        match find_extended_port(answer.text.as_bytes()) {
+            Some(port) if port != 0 => Ok(port),
+            _ => Err(format!("no port: {} {}", answer.code, answer.text).into()),
         }
     }
 
@@ -153,16 +153,6 @@ fn connect(host: &str, port: u16) -> io::Result<TcpStream> {
 fn printable(text: &[u8]) -> String {
     let shown = |byte: &u8| if matches!(byte, b' '..=b'~') { char::from(*byte) } else { '?' };
     text.iter().map(shown).collect()
-}
-
-/// The port in the text of a 229: `(|||6446|)`, with any sign in place of the bars.
-fn port_in(text: &str) -> Option<u16> {
-    let inner = text.split_once('(')?.1.split_once(')')?.0;
-    let parts: Vec<&str> = inner.split(inner.chars().next()?).collect();
-    match parts[..] {
-        ["", "", "", port, ""] => port.parse().ok().filter(|port| *port != 0),
-        _ => None,
-    }
 }
 
 /// Copies all bytes, and shows how many there are so far.

@@ -1,10 +1,10 @@
 //! The commands that prepare a data connection.
-use crate::commands::{refuse, reply, Answered};
+use crate::commands::{refuse, reply, Answer, Answered};
 use crate::data::{self, DataPort};
 use crate::session::Session;
 use std::net::{IpAddr, SocketAddr, SocketAddrV4};
-use unftp_control::{Reply, ReplyCode as Code};
-use unftp_control_examples::address::{self, NoAddress};
+use unftp_control::{AddressError, Error, Reply, ReplyCode as Code};
+use unftp_control_examples::address::{of_eprt, of_port};
 
 impl Session {
     /// Listens for a data connection.
@@ -30,8 +30,7 @@ impl Session {
         else {
             return refuse(Code::CANT_OPEN_DATA_CONNECTION, "Use EPSV over IPv6");
         };
-        let numbers = address::six_numbers(SocketAddrV4::new(address, self.listen()?));
-        reply(Code::ENTERING_PASSIVE_MODE, format!("Entering Passive Mode ({numbers})."))
+        listening(Reply::passive(SocketAddrV4::new(address, self.listen()?)))
     }
 
     pub fn extended_passive(&mut self, parameter: &[u8]) -> Answered {
@@ -45,9 +44,7 @@ impl Session {
             (digits, _) if digits.iter().all(u8::is_ascii_digit) => return Err(self.protocol()),
             _ => return refuse(Code::PARAMETER_SYNTAX_ERROR, "No network protocol"),
         }
-        let port = self.listen()?;
-        let text = format!("Entering Extended Passive Mode (|||{port}|)");
-        reply(Code::ENTERING_EXTENDED_PASSIVE_MODE, text)
+        listening(Reply::extended_passive(self.listen()?))
     }
 
     /// Names the one network protocol that a client can use (RFC 2428, section 2).
@@ -65,19 +62,19 @@ impl Session {
     }
 
     pub fn port(&mut self, parameter: &str) -> Answered {
-        let Some(address) = address::of_port(parameter) else {
+        let Some(address) = of_port(parameter) else {
             return refuse(Code::PARAMETER_SYNTAX_ERROR, "No address");
         };
         self.connect_to(address.into())
     }
 
     pub fn extended_port(&mut self, parameter: &str) -> Answered {
-        match address::of_eprt(parameter) {
+        match of_eprt(parameter) {
             Ok(address) if address.is_ipv4() == self.ends.server.is_ipv4() => {
                 self.connect_to(address)
             }
-            Ok(_) | Err(NoAddress::UnknownProtocol) => Err(self.protocol()),
-            Err(NoAddress::Malformed) => refuse(Code::PARAMETER_SYNTAX_ERROR, "No address"),
+            Ok(_) | Err(AddressError::UnknownProtocol) => Err(self.protocol()),
+            Err(AddressError::Malformed) => refuse(Code::PARAMETER_SYNTAX_ERROR, "No address"),
         }
     }
 
@@ -91,5 +88,13 @@ impl Session {
         }
         self.data_port = DataPort::Active(address);
         reply(Code::COMMAND_OKAY, "OK")
+    }
+}
+
+/// The answer of the reply that names where the server listens.
+fn listening(reply: Result<Reply, Error>) -> Answered {
+    match reply {
+        Ok(reply) => Ok(Answer::Reply(reply)),
+        Err(_) => refuse(Code::LOCAL_ERROR, "Out of memory"),
     }
 }

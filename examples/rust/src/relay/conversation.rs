@@ -3,7 +3,6 @@ use super::data::{Progress, Route, Transfer};
 use super::exchange::{Answer, Exchange};
 use super::protection::Protection;
 use super::Relay;
-use crate::address::{in_227, in_229};
 use crate::telnet::Telnet;
 use bytes::BytesMut;
 use std::future::Future;
@@ -13,8 +12,8 @@ use std::{io, mem};
 use tokio_rustls::TlsAcceptor;
 use tokio_util::codec::Decoder;
 use unftp_control::{
-    Client, CodecError, Command, Error, Event, FtpLineCodec, OwnedLine, ReceivedReply, Reply,
-    ReplyCode as Code, ReplyValue, To,
+    find_extended_port, find_host_port, Client, CodecError, Command, Error, Event, FtpLineCodec,
+    OwnedLine, ReceivedReply, Reply, ReplyCode as Code, ReplyValue, To,
 };
 
 /// How many lines may be owed their replies.
@@ -484,9 +483,9 @@ impl Conversation {
 
 /// The port that a 227 or a 229 names, in any of its lines.
 fn named_port(reply: &ReceivedReply<'_>) -> Option<u16> {
-    let mut lines = reply.lines().map(String::from_utf8_lossy);
-    lines.find_map(|line| match reply.code() {
-        227 => in_227(&line).map(|address| address.port()),
-        _ => in_229(&line),
-    })
+    let port_in = |line: &[u8]| match reply.code() {
+        227 => find_host_port(line).map(|address| address.port()),
+        _ => find_extended_port(line),
+    };
+    reply.lines().filter_map(port_in).find(|port| *port != 0)
 }

@@ -2,11 +2,12 @@
 use super::conversation::{Addresses, Conversation, Purpose, Verdict};
 use super::data::{listen, Direction, Route, Transfer};
 use super::rules::{is_option, parameter};
-use crate::address::{eprt, of_eprt, of_port, six_numbers, NoAddress};
+use crate::address::{of_eprt, of_port};
 use std::io;
 use std::net::SocketAddr;
 use unftp_control::{
-    forward, Command, Error, Event, ModeParam, OwnedLine, Reply, ReplyCode as Code,
+    extended, forward, host_port, AddressError, Command, Error, Event, ModeParam, OwnedLine, Reply,
+    ReplyCode as Code,
 };
 
 /// The first port that is no system's own. A data connection to a lower one would reach a service
@@ -40,7 +41,7 @@ impl Conversation {
             Command::Port { addr } => return self.active(of_port(addr).map(SocketAddr::V4), false),
             Command::Other { command_name, arguments } if command_name == "EPRT" => {
                 return match of_eprt(arguments) {
-                    Err(NoAddress::UnknownProtocol) => self.other_protocol(),
+                    Err(AddressError::UnknownProtocol) => self.other_protocol(),
                     address => self.active(address.ok(), true),
                 };
             }
@@ -97,14 +98,8 @@ impl Conversation {
         let listener = listen(to_client).ok()?;
         let own = listener.local_addr().ok()?;
         let reply = match own {
-            _ if is_extended => Reply::new(
-                Code::ENTERING_EXTENDED_PASSIVE_MODE,
-                format!("Entering Extended Passive Mode (|||{}|)", own.port()),
-            ),
-            SocketAddr::V4(own) => Reply::new(
-                Code::ENTERING_PASSIVE_MODE,
-                format!("Entering Passive Mode ({}).", six_numbers(own)),
-            ),
+            _ if is_extended => Reply::extended_passive(own.port()).ok()?,
+            SocketAddr::V4(own) => Reply::passive(own).ok()?,
             SocketAddr::V6(_) => return None,
         };
         let route = Route {
@@ -144,10 +139,11 @@ impl Conversation {
         let mut to = self.addresses.client;
         to.set_port(port);
         let listener = listen(self.addresses.to_server)?;
-        let line = match listener.local_addr()? {
-            SocketAddr::V4(own) if !is_extended => format!("PORT {}\r\n", six_numbers(own)),
-            own => format!("EPRT {}\r\n", eprt(own)),
+        let (verb, address) = match listener.local_addr()? {
+            SocketAddr::V4(own) if !is_extended => ("PORT", host_port(own)),
+            own => ("EPRT", extended(own)),
         };
+        let line = format!("{verb} {}\r\n", address.map_err(io::Error::other)?);
         let route = Route {
             direction: Direction::Active,
             listener,
