@@ -33,7 +33,7 @@ extern "C" {
 
 /* The version that this header is of: major * 1,000,000 + minor * 1,000 + patch. */
 #define UNFTP_VERSION_MAJOR 0
-#define UNFTP_VERSION_MINOR 1
+#define UNFTP_VERSION_MINOR 2
 #define UNFTP_VERSION_PATCH 0
 #define UNFTP_VERSION \
     (UNFTP_VERSION_MAJOR * 1000000 + UNFTP_VERSION_MINOR * 1000 + UNFTP_VERSION_PATCH)

@@ -72,8 +72,8 @@
 //!
 //! With the feature `system` the crate links an installed library in its place, which a distribution
 //! may want: `libunftp_control.a` of the folder that `UNFTP_CONTROL_LIB` names, or of `lib` there,
-//! and else the one that `pkg-config unftp_control` finds, where its version is 0.1.x. The first call
-//! then asks the library for its version, and panics where that is not 0.1.x.
+//! and else the one that `pkg-config unftp_control` finds, where its version is 0.2.x. The first call
+//! then asks the library for its version, and panics where that is not 0.2.x.
 //!
 //! The crate without features has no dependencies.
 //!
