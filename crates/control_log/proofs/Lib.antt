@@ -1,2 +1,1 @@
 mod LogLemmas
-mod ExampleLemmas

@@ -6,14 +6,15 @@
 //! error.
 #![tactic(auto)]
 
+ghost use Rattle.std.specs.Io.KnownBytes.{IsAtEnd};
 ghost use Rattle.std.specs.Prelude.{◌≡◌, ◌++◌, ◌∷◌, [], Some, IfErr, OnOk};
 ghost use Rattle.unftp_control_defs.specs.Bytes.{LF};
 ghost use Rattle.unftp_control_defs.specs.Input.{input_state_of};
-ghost use Rattle.unftp_control_defs.specs.Lines.{incomplete_line};
+ghost use Rattle.unftp_control_defs.specs.Lines.{incomplete_line, lines_of};
 ghost use Rattle.unftp_control_log.specs.LogLine.{log_line};
 ghost use Rattle.unftp_control_serve.specs.EventMeaning.{event_meant};
-ghost use Rattle.unftp_control_serve.specs.Writing.{Sends, output_state_of};
-ghost use Rattle.control_log.specs.Log.{LogEnded, Logs, LogsAll};
+ghost use Rattle.unftp_control_serve.specs.Writing.{Sends, Sent, output_state_of};
+ghost use Rattle.control_log.specs.Log.{LogEnded, LogsAll, StopsAt, log_of};
 
 mod examples;
 
@@ -58,8 +59,10 @@ fn log_pending<W: Write>(
     entry: &mut Vec<u8>,
     writer: &mut Output<W>,
 ) -> Result<(), ServeError>
-    ensures logs { Logs decoder.old.limit decoder.old.bytes
-        (output_state_of W.contents writer.old) result (output_state_of W.contents writer.new) }
+    ensures ok { OnOk result (Sent (log_of decoder.old.limit (lines_of decoder.old.bytes))
+        (output_state_of W.contents writer.old) (output_state_of W.contents writer.new)) }
+    ensures err { IfErr result (StopsAt decoder.old.limit (lines_of decoder.old.bytes)
+        (output_state_of W.contents writer.old) (output_state_of W.contents writer.new)) }
     ensures pending { OnOk result (decoder.new.bytes ≡ incomplete_line decoder.old.bytes) }
     ensures limit { decoder.new.limit ≡ decoder.old.limit }
 {
@@ -88,10 +91,13 @@ pub fn run<R: Read, W: Write>(
     writer: &mut Output<W>,
 ) -> Result<(), ServeError>
     // At Ok, of any reader and any writer, exactly the log lines of the lines that the reads gave
-    // were written and flushed, each with a line feed; and what is so at each error.
+    // were written and flushed, each with a line feed; the last read gave nothing, at the reader's
+    // end; and what is so at each error.
     ensures ok { OnOk result (LogsAll (Some LIMIT)
         (output_state_of W.contents writer.old) (output_state_of W.contents writer.new)
-        (input_state_of R.remaining reader.old) (input_state_of R.remaining reader.new)) }
+        (input_state_of R.remaining reader.old) (input_state_of R.remaining reader.new)
+        (0 ∷ []) 0) }
+    ensures at_end { OnOk result (IsAtEnd (R.remaining reader.new.reader)) }
     ensures err { IfErr result (LogEnded (Some LIMIT)
         (output_state_of W.contents writer.old) (output_state_of W.contents writer.new)
         (input_state_of R.remaining reader.old) (input_state_of R.remaining reader.new)) }
