@@ -29,13 +29,13 @@ mod users;
 use arguments::{Settings, Task};
 use folder::Folder;
 use session::Server;
-use std::io::{self, Read};
+use std::io::{self, Read, Write};
 use std::process::ExitCode;
 use std::sync::Arc;
 use std::time::Duration;
 use tokio::net::TcpListener;
-use unftp_control_examples::listening;
 use unftp_control_examples::stream::TlsAcceptors;
+use unftp_control_examples::{listening, log};
 use users::Users;
 
 /// How long transfers may go on after the signal that ends the program.
@@ -51,7 +51,8 @@ fn main() -> ExitCode {
     match done {
         Ok(()) => ExitCode::SUCCESS,
         Err(error) => {
-            eprintln!("ftpd: {error}");
+            // where this fails too, the status remains
+            let _ = writeln!(io::stderr(), "ftpd: {error}");
             ExitCode::FAILURE
         }
     }
@@ -63,19 +64,24 @@ fn print_hash(rounds: u32) -> io::Result<()> {
     io::stdin().read_to_end(&mut password)?;
     let password = password.strip_suffix(b"\n").unwrap_or(&password);
     let hash = users::hash_password(password, rounds);
-    println!("{}", hash.map_err(|error| io::Error::new(io::ErrorKind::InvalidInput, error))?);
-    Ok(())
+    let hash = hash.map_err(|error| io::Error::new(io::ErrorKind::InvalidInput, error))?;
+    print(&hash)
+}
+
+/// Prints a line on standard output.
+fn print(line: &str) -> io::Result<()> {
+    writeln!(io::stdout(), "{line}").map_err(|error| about("standard output", error))
 }
 
 /// Starts what serves the folder.
 fn start(settings: Settings) -> io::Result<()> {
-    let log = tracing_subscriber::fmt().with_max_level(settings.log).with_writer(io::stderr);
-    log.with_ansi(false).with_target(false).init();
+    let _end = log::start(settings.log)?;
     // All sessions wait in one thread, which spares them a hand-over from one to another. What takes
     // long has a thread of its own: a transfer, of which each session may have one, and a hash.
     let mut runtime = tokio::runtime::Builder::new_current_thread();
     runtime.enable_all().max_blocking_threads(settings.limits.connections);
-    runtime.build()?.block_on(serve(settings))
+    let runtime = runtime.build()?;
+    runtime.block_on(serve(settings))
 }
 
 /// Serves the folder until a signal ends that.
@@ -88,7 +94,7 @@ async fn serve(settings: Settings) -> io::Result<()> {
     let limits = settings.limits;
     let server = Arc::new(server(settings)?);
     let ports = listeners.iter().map(|it| Ok(it.local_addr()?.port().to_string()));
-    println!("{}", ports.collect::<io::Result<Vec<_>>>()?.join(" "));
+    print(&ports.collect::<io::Result<Vec<_>>>()?.join(" "))?;
     let session = |connected| session::serve(server.clone(), connected);
     listening::serve(listeners, limits, GRACE + CLOSING, session).await
 }
