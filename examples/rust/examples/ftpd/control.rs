@@ -4,6 +4,7 @@ use std::collections::VecDeque;
 use std::io::{self, ErrorKind};
 use std::time::Duration;
 use tokio::io::{AsyncReadExt, AsyncWriteExt};
+use tokio::task::yield_now;
 use tokio::time::timeout;
 use tokio_rustls::TlsAcceptor;
 use tokio_util::codec::{Decoder, Encoder};
@@ -15,6 +16,9 @@ use unftp_control_examples::telnet::Telnet;
 const READ: usize = 2048;
 /// How many lines may wait for the end of a transfer.
 const WAITING: usize = 64;
+/// How many lines of a client are taken before others have their turn: the runtime looks at no socket
+/// while a task runs, and a client may send lines as fast as they are answered.
+const TURN: usize = 128;
 
 /// A control connection.
 pub struct Control {
@@ -22,6 +26,8 @@ pub struct Control {
     input: BytesMut,
     telnet: Telnet,
     codec: FtpLineCodec,
+    /// How many lines were looked for in this turn.
+    taken: usize,
     /// Lines that came during a transfer.
     waiting: VecDeque<OwnedLine>,
     /// Replies that are to be sent.
@@ -38,6 +44,7 @@ impl Control {
             input: BytesMut::with_capacity(READ),
             telnet: Telnet::default(),
             codec: FtpLineCodec::new(),
+            taken: 0,
             waiting: VecDeque::new(),
             output: BytesMut::new(),
             patience,
@@ -50,7 +57,7 @@ impl Control {
             return Ok(line);
         }
         loop {
-            if let Some(line) = self.codec.decode(&mut self.input)? {
+            if let Some(line) = self.received_line().await? {
                 return Ok(line);
             }
             self.flush().await?;
@@ -61,11 +68,21 @@ impl Control {
     /// The next line that comes during a transfer. A call that is dropped loses nothing.
     pub async fn line_in_transfer(&mut self) -> Result<OwnedLine, CodecError> {
         loop {
-            if let Some(line) = self.codec.decode(&mut self.input)? {
+            if let Some(line) = self.received_line().await? {
                 return Ok(line);
             }
             self.receive().await?;
         }
+    }
+
+    /// The next of the lines that have come. A call that is dropped loses nothing.
+    async fn received_line(&mut self) -> Result<Option<OwnedLine>, CodecError> {
+        if self.taken == TURN {
+            self.taken = 0;
+            yield_now().await;
+        }
+        self.taken += 1;
+        self.codec.decode(&mut self.input)
     }
 
     /// Keeps a line for the end of a transfer.
