@@ -75,7 +75,8 @@ impl Drop for Counted {
 }
 
 /// Lets each client that connects to one of the listeners have its session, until SIGINT or SIGTERM
-/// comes. Then it waits for the sessions to end, for so long at most.
+/// comes. Then it waits for the sessions to end, for so long at most. SIGUSR1 and SIGUSR2 are
+/// ignored.
 ///
 /// # Errors
 ///
@@ -95,6 +96,7 @@ where
     let (stopping, stop) = watch::channel(());
     let mut interrupted = signal(SignalKind::interrupt())?;
     let mut terminated = signal(SignalKind::terminate())?;
+    ignore_user_signals()?;
     let mut sessions = JoinSet::new();
     loop {
         tokio::select! {
@@ -124,6 +126,15 @@ where
     drop((listeners, stopping));
     let ended = async { while sessions.join_next().await.is_some() {} };
     let _ = timeout(patience, ended).await;
+    Ok(())
+}
+
+/// Ignores SIGUSR1 and SIGUSR2, which would end the program.
+fn ignore_user_signals() -> io::Result<()> {
+    for kind in [SignalKind::user_defined1(), SignalKind::user_defined2()] {
+        // tokio receives it from now on, also without this stream
+        drop(signal(kind)?);
+    }
     Ok(())
 }
 

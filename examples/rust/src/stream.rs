@@ -160,6 +160,7 @@ fn tls_config(certificates: &Path, key: &Path) -> io::Result<ServerConfig> {
 }
 
 /// What accepts TLS on control connections and on their data connections.
+#[derive(Clone)]
 pub struct TlsAcceptors {
     /// On control connections.
     pub control: TlsAcceptor,

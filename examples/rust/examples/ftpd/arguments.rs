@@ -11,6 +11,12 @@ use unftp_control_examples::listening::Limits;
 /// Those of RFC 6335, section 6.
 const DYNAMIC_PORTS: RangeInclusive<u16> = 49152..=65535;
 
+/// What signals do, for the help.
+const SIGNALS: &str = "\
+At SIGHUP the files of users, certificates and the key are read again, for sessions that begin
+after that. A file at fault is logged, and what was read of it before stays. At SIGINT or SIGTERM
+each session ends after its transfer, to which 10 seconds are left.";
+
 /// What the program is to do.
 pub enum Task {
     /// Print the hash of a password that is read from standard input.
@@ -97,6 +103,7 @@ fn command() -> Command {
         .args(users())
         .args(encryption())
         .args(limits())
+        .after_help(SIGNALS)
 }
 
 fn option(name: &'static str, value: &'static str, help: &'static str) -> Arg {

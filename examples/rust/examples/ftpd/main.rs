@@ -22,21 +22,22 @@ mod line;
 mod listing;
 mod ports;
 mod replies;
+mod server;
 mod session;
 mod transfer;
 mod users;
 
 use arguments::{Settings, Task};
-use folder::Folder;
-use session::Server;
+use server::Server;
 use std::io::{self, Read, Write};
 use std::process::ExitCode;
 use std::sync::Arc;
 use std::time::Duration;
 use tokio::net::TcpListener;
-use unftp_control_examples::stream::TlsAcceptors;
+use tokio::signal::unix::{signal, Signal, SignalKind};
+use tokio::sync::watch;
+use tokio::task::spawn_blocking;
 use unftp_control_examples::{listening, log};
-use users::Users;
 
 /// How long transfers may go on after the signal that ends the program.
 const GRACE: Duration = Duration::from_secs(10);
@@ -77,9 +78,10 @@ fn print(line: &str) -> io::Result<()> {
 fn start(settings: Settings) -> io::Result<()> {
     let _end = log::start(settings.log)?;
     // All sessions wait in one thread, which spares them a hand-over from one to another. What takes
-    // long has a thread of its own: a transfer, of which each session may have one, and a hash.
+    // long has a thread of its own: a transfer or a hash, of which each session may have one, and
+    // what SIGHUP asks for.
     let mut runtime = tokio::runtime::Builder::new_current_thread();
-    runtime.enable_all().max_blocking_threads(settings.limits.connections);
+    runtime.enable_all().max_blocking_threads(settings.limits.connections + 1);
     let runtime = runtime.build()?;
     runtime.block_on(serve(settings))
 }
@@ -92,23 +94,24 @@ async fn serve(settings: Settings) -> io::Result<()> {
         listeners.push(listener.map_err(|error| about(&address.to_string(), error))?);
     }
     let limits = settings.limits;
-    let server = Arc::new(server(settings)?);
+    let hangups = signal(SignalKind::hangup())?;
+    let (newest, server) = watch::channel(Arc::new(Server::read(settings)?));
+    tokio::spawn(read_again(hangups, newest));
     let ports = listeners.iter().map(|it| Ok(it.local_addr()?.port().to_string()));
     print(&ports.collect::<io::Result<Vec<_>>>()?.join(" "))?;
-    let session = |connected| session::serve(server.clone(), connected);
+    let session = |connected| session::serve(server.borrow().clone(), connected);
     listening::serve(listeners, limits, GRACE + CLOSING, session).await
 }
 
-/// Reads what the settings name.
-fn server(settings: Settings) -> io::Result<Server> {
-    let named = settings.folder.display().to_string();
-    let folder = Folder::open(&settings.folder).map_err(|error| about(&named, error))?;
-    let users = Users::read(settings.users.as_deref(), settings.anonymous)
-        .map_err(|error| about("the users", error))?;
-    let files = settings.tls.as_ref();
-    let tls = files.map(|(certificates, key)| TlsAcceptors::read(certificates, key)).transpose();
-    let tls = tls.map_err(|error| about("the certificate or its key", error))?;
-    Ok(Server { settings, folder, users, tls })
+/// Reads users and certificates again at each SIGHUP. Sessions that have begun keep theirs.
+async fn read_again(mut hangups: Signal, newest: watch::Sender<Arc<Server>>) {
+    while hangups.recv().await.is_some() {
+        let before = newest.borrow().clone();
+        if let Ok(server) = spawn_blocking(move || before.read_again()).await {
+            newest.send_replace(Arc::new(server));
+            tracing::info!("read again, at SIGHUP");
+        }
+    }
 }
 
 /// The error with what it is about.

@@ -1,12 +1,12 @@
 //! A session: a client's lines are answered in turn, and beside a transfer only ABOR and STAT are.
-use crate::arguments::Settings;
 use crate::commands::Answer;
 use crate::control::Control;
 use crate::data::{DataPort, Ends};
-use crate::folder::{FilePath, Folder};
+use crate::folder::FilePath;
 use crate::listing::Fact;
+use crate::server::Server;
 use crate::transfer::{Fault, Representation, Transfer, Work};
-use crate::users::{Rights, Users};
+use crate::users::Rights;
 use crate::GRACE;
 use std::io;
 use std::mem;
@@ -18,7 +18,7 @@ use tokio::time::{sleep, sleep_until, timeout_at, Instant};
 use tracing::{field, info_span, Instrument, Level, Span};
 use unftp_control::{CodecError, Command, Event, Login, OwnedLine, Reply, ReplyCode as Code};
 use unftp_control_examples::listening::{Connected, Stop};
-use unftp_control_examples::stream::{Stream, TlsAcceptors};
+use unftp_control_examples::stream::Stream;
 
 /// How long a client may take to log in.
 const LOGIN_TIME: Duration = Duration::from_secs(120);
@@ -28,18 +28,6 @@ const WRONG_PASSWORDS: u32 = 3;
 const DELAY: Duration = Duration::from_secs(1);
 /// How long a client may take to read the last reply and to close.
 const LINGER: Duration = Duration::from_secs(5);
-
-/// What all sessions share.
-pub struct Server {
-    /// What the command line says.
-    pub settings: Settings,
-    /// The folder that is served.
-    pub folder: Folder,
-    /// Who may log in.
-    pub users: Users,
-    /// What turns connections to TLS, where there is a certificate.
-    pub tls: Option<TlsAcceptors>,
-}
 
 /// What a session knows beside its control connection.
 pub struct Session {

@@ -1,0 +1,64 @@
+//! What the sessions share: some of it is read again at SIGHUP, for those that begin after that.
+use crate::about;
+use crate::arguments::Settings;
+use crate::folder::Folder;
+use crate::users::Users;
+use std::io;
+use std::sync::Arc;
+use unftp_control_examples::stream::TlsAcceptors;
+
+/// What a session shares with others.
+pub struct Server {
+    /// What the command line says.
+    pub settings: Arc<Settings>,
+    /// The folder that is served.
+    pub folder: Folder,
+    /// Who may log in.
+    pub users: Arc<Users>,
+    /// What turns connections to TLS, where there is a certificate.
+    pub tls: Option<TlsAcceptors>,
+}
+
+impl Server {
+    /// Opens the folder, and reads the files that the settings name.
+    ///
+    /// # Errors
+    ///
+    /// Where the folder can't be opened, or a file can't be read or is not what it has to be.
+    pub fn read(settings: Settings) -> io::Result<Server> {
+        let named = settings.folder.display().to_string();
+        let folder = Folder::open(&settings.folder).map_err(|error| about(&named, error))?;
+        let (users, tls) = (read_users(&settings)?, read_tls(&settings)?);
+        Ok(Server { settings: Arc::new(settings), folder, users, tls })
+    }
+
+    /// The same with what the files have now. Where one is at fault, which is logged, what was read
+    /// of it before stays.
+    pub fn read_again(&self) -> Server {
+        Server {
+            settings: self.settings.clone(),
+            folder: self.folder.clone(),
+            users: or_before(read_users(&self.settings), &self.users),
+            tls: or_before(read_tls(&self.settings), &self.tls),
+        }
+    }
+}
+
+fn read_users(settings: &Settings) -> io::Result<Arc<Users>> {
+    let users = Users::read(settings.users.as_deref(), settings.anonymous);
+    users.map(Arc::new).map_err(|error| about("the users", error))
+}
+
+fn read_tls(settings: &Settings) -> io::Result<Option<TlsAcceptors>> {
+    let files = settings.tls.as_ref();
+    let tls = files.map(|(certificates, key)| TlsAcceptors::read(certificates, key)).transpose();
+    tls.map_err(|error| about("the certificate or its key", error))
+}
+
+/// What was read, or else what was read before.
+fn or_before<T: Clone>(read: io::Result<T>, before: &T) -> T {
+    read.unwrap_or_else(|error| {
+        tracing::error!("{error}; what was read before stays");
+        before.clone()
+    })
+}
