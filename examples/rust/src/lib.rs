@@ -4,6 +4,7 @@
 //! they serve right.
 
 pub mod address;
+mod certificate;
 pub mod connection;
 pub mod listening;
 pub mod log;

@@ -1,6 +1,6 @@
 //! A connection in clear text or under TLS, on the server's end.
-use std::fs::File;
-use std::io::{self, BufReader, ErrorKind};
+use crate::certificate::tls_config;
+use std::io::{self, ErrorKind};
 use std::path::Path;
 use std::pin::Pin;
 use std::sync::Arc;
@@ -10,7 +10,6 @@ use tokio::io::{copy, sink, AsyncRead, AsyncWrite, AsyncWriteExt, ReadBuf};
 use tokio::net::TcpStream;
 use tokio::time::timeout;
 use tokio_rustls::rustls::server::{NoServerSessionStorage, StoresServerSessions};
-use tokio_rustls::rustls::{Certificate, PrivateKey, ServerConfig};
 use tokio_rustls::server::TlsStream;
 use tokio_rustls::TlsAcceptor;
 
@@ -130,33 +129,14 @@ impl AsyncWrite for Stream {
 ///
 /// # Errors
 ///
-/// Where a file can't be read, or they are no certificate and its key.
+/// Where a file can't be read, or has no certificate or no private key; and where the key isn't that
+/// of the first certificate.
 pub fn tls_acceptor(certificates: &Path, key: &Path) -> io::Result<TlsAcceptor> {
     let mut config = tls_config(certificates, key)?;
     // A client that uploads never reads a session ticket. It closes over unread bytes, which resets
     // the connection, and the end of the file may be lost.
     config.session_storage = Arc::new(NoServerSessionStorage {});
     Ok(TlsAcceptor::from(Arc::new(config)))
-}
-
-fn tls_config(certificates: &Path, key: &Path) -> io::Result<ServerConfig> {
-    let invalid = |what: &str| io::Error::new(ErrorKind::InvalidData, what.to_string());
-    let chain = rustls_pemfile::certs(&mut BufReader::new(File::open(certificates)?))?;
-    let items = rustls_pemfile::read_all(&mut BufReader::new(File::open(key)?))?;
-    let key = items.into_iter().find_map(|item| match item {
-        rustls_pemfile::Item::PKCS8Key(key)
-        | rustls_pemfile::Item::RSAKey(key)
-        | rustls_pemfile::Item::ECKey(key) => Some(PrivateKey(key)),
-        _ => None,
-    });
-    ServerConfig::builder()
-        .with_safe_defaults()
-        .with_no_client_auth()
-        .with_single_cert(
-            chain.into_iter().map(Certificate).collect(),
-            key.ok_or_else(|| invalid("no private key"))?,
-        )
-        .map_err(|error| invalid(&error.to_string()))
 }
 
 /// What accepts TLS on control connections and on their data connections.

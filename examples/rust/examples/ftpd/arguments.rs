@@ -148,7 +148,7 @@ fn encryption() -> [Arg; 3] {
         option("certificate", "PEM", "The certificates for TLS")
             .value_parser(value_parser!(PathBuf))
             .requires("key"),
-        option("key", "PEM", "Their private key")
+        option("key", "PEM", "The private key of the first certificate")
             .value_parser(value_parser!(PathBuf))
             .requires("certificate"),
         flag("require-tls", "No passwords and no files in clear text").requires("certificate"),
