@@ -89,11 +89,11 @@ impl Session {
     }
 
     /// Changes what a client names, where the user may.
-    async fn change(
+    async fn change<T: Send + 'static>(
         &self,
         named: &[u8],
-        work: impl FnOnce(&Folder, &FilePath) -> io::Result<()> + Send + 'static,
-    ) -> Result<(), Reply> {
+        work: impl FnOnce(&Folder, &FilePath) -> io::Result<T> + Send + 'static,
+    ) -> Result<T, Reply> {
         self.writes()?;
         self.in_folder(named, work).await
     }
@@ -197,27 +197,26 @@ impl Session {
         }
     }
 
-    /// MFMT: a time and a file.
+    /// MFMT: a time and a file or a directory.
     pub async fn set_modified(&mut self, line: &OwnedLine) -> Answered {
         let (time, named) = first_word(line.parameter());
-        let time = std::str::from_utf8(time).unwrap_or_default();
-        let Some(modified) = parsed_time(time) else {
-            return refuse(Code::PARAMETER_SYNTAX_ERROR, "No time");
+        let time = std::str::from_utf8(time).ok().and_then(parsed_time);
+        let Some(modified) = time.filter(|_| !named.is_empty()) else {
+            return refuse(Code::PARAMETER_SYNTAX_ERROR, "No time, or no file");
         };
         let seconds = modified.assume_utc().unix_timestamp();
-        self.change(&named, move |folder, path| folder.set_modified(path, seconds)).await?;
-        let named = String::from_utf8_lossy(&named).into_owned();
-        let whole = time.split('.').next().unwrap_or_default();
-        reply(Code::FILE_STATUS, format!("Modify={whole}; {named}"))
+        let facts = self.change(&named, move |folder, path| folder.set_modified(path, seconds));
+        let time = time_value(&facts.await?).unwrap_or_default();
+        let named = String::from_utf8_lossy(&named);
+        reply(Code::FILE_STATUS, format!("Modify={time}; {named}"))
     }
 
-    /// SITE CHMOD: a mode in octal digits and a file.
+    /// SITE CHMOD: a mode in octal digits and a file or a directory.
     pub async fn set_mode(&mut self, line: &OwnedLine) -> Answered {
         let (_, words) = first_word(line.parameter());
         let (mode, named) = first_word(&words);
-        let mode = std::str::from_utf8(mode).ok().and_then(|it| u32::from_str_radix(it, 8).ok());
-        let Some(mode) = mode.filter(|mode| *mode <= 0o777) else {
-            return refuse(Code::PARAMETER_SYNTAX_ERROR, "No mode");
+        let Some(mode) = parsed_mode(mode).filter(|_| !named.is_empty()) else {
+            return refuse(Code::PARAMETER_SYNTAX_ERROR, "No mode, or no file");
         };
         self.change(&named, move |folder, path| folder.set_mode(path, mode)).await?;
         reply(Code::COMMAND_OKAY, "OK")
@@ -251,6 +250,13 @@ impl Session {
         self.change(named, move |folder, to| folder.rename(&from, to)).await?;
         reply(Code::FILE_ACTION_OKAY, "Renamed")
     }
+}
+
+/// A mode in octal digits.
+fn parsed_mode(digits: &[u8]) -> Option<u32> {
+    // from_str_radix would also take a plus sign
+    let digits = std::str::from_utf8(digits).ok().filter(|it| !it.starts_with('+'))?;
+    u32::from_str_radix(digits, 8).ok().filter(|mode| *mode <= 0o777)
 }
 
 fn opening(text: impl Into<Cow<'static, str>>) -> Reply {

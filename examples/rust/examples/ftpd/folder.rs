@@ -7,6 +7,7 @@ use std::ffi::OsStr;
 use std::fs::File;
 use std::io;
 use std::os::unix::ffi::OsStrExt;
+use std::os::unix::io::AsRawFd;
 use std::path::Path;
 use std::sync::atomic::{AtomicU64, Ordering};
 use std::sync::Arc;
@@ -209,19 +210,45 @@ impl Folder {
         Ok(fs::renameat(&from, old, &to, new)?)
     }
 
-    /// Sets who may read, write and execute a file.
-    pub fn set_mode(&self, path: &FilePath, mode: u32) -> io::Result<()> {
-        let (file, _) = self.read(path)?;
-        Ok(fs::fchmod(&file, Mode::from_raw_mode(mode & 0o777))?)
+    /// Opens a regular file or a directory to change its facts: to do so takes no right to read it.
+    fn open_facts(&self, path: &FilePath) -> io::Result<(OwnedFd, Stat)> {
+        let file = self.open_below(path, OFlags::PATH, Mode::empty())?;
+        let facts = fs::fstat(&file)?;
+        if !is_type(&facts, FileType::RegularFile) && !is_type(&facts, FileType::Directory) {
+            return Err(io::ErrorKind::InvalidInput.into());
+        }
+        Ok((file, facts))
     }
 
-    /// Sets when a file was modified, in seconds since 1970.
-    pub fn set_modified(&self, path: &FilePath, seconds: i64) -> io::Result<()> {
-        let (file, _) = self.read(path)?;
-        let modified = fs::Timespec { tv_sec: seconds, tv_nsec: 0 };
-        let last_access = fs::Timespec { tv_sec: 0, tv_nsec: fs::UTIME_OMIT };
-        Ok(fs::futimens(&file, &Timestamps { last_access, last_modification: modified })?)
+    /// Sets who may read, write and execute a file or a directory, but not the folder itself: its user
+    /// might find nothing any more. A directory keeps its set-group-ID bit and its sticky bit.
+    pub fn set_mode(&self, path: &FilePath, mode: u32) -> io::Result<()> {
+        let (file, facts) = self.open_facts(path)?;
+        let root = fs::fstat(&*self.root)?;
+        if (facts.st_dev, facts.st_ino) == (root.st_dev, root.st_ino) {
+            return Err(Errno::BUSY.into());
+        }
+        let kept = if is_type(&facts, FileType::Directory) { facts.st_mode & 0o7000 } else { 0 };
+        let mode = Mode::from_raw_mode(mode & 0o777 | kept);
+        Ok(fs::chmodat(fs::cwd(), link_to(&file), mode)?)
     }
+
+    /// Sets when a file or a directory was modified, in seconds since 1970. Its facts then say which
+    /// time its file system has for that.
+    pub fn set_modified(&self, path: &FilePath, seconds: i64) -> io::Result<Stat> {
+        let (file, _) = self.open_facts(path)?;
+        let last_modification = fs::Timespec { tv_sec: seconds, tv_nsec: 0 };
+        let last_access = fs::Timespec { tv_sec: 0, tv_nsec: fs::UTIME_OMIT };
+        let times = Timestamps { last_access, last_modification };
+        fs::utimensat(fs::cwd(), link_to(&file), &times, AtFlags::empty())?;
+        Ok(fs::fstat(&file)?)
+    }
+}
+
+/// A path that leads to this open file, also where it was opened by `O_PATH`, which `fchmod` and
+/// `futimens` don't take. It needs `/proc`.
+fn link_to(file: &OwnedFd) -> String {
+    format!("/proc/self/fd/{}", file.as_raw_fd())
 }
 
 /// Whether these are the facts of a file of this type.

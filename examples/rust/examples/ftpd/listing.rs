@@ -104,8 +104,12 @@ fn modified(facts: &Stat) -> Option<OffsetDateTime> {
 /// A time as RFC 3659, section 2.3, has it, without its fraction of a second.
 pub fn parsed_time(text: &str) -> Option<PrimitiveDateTime> {
     let (seconds, fraction) = text.split_once('.').unwrap_or((text, "0"));
-    let is_fraction = !fraction.is_empty() && fraction.bytes().all(|byte| byte.is_ascii_digit());
-    PrimitiveDateTime::parse(seconds, TIME_VALUE).ok().filter(|_| is_fraction)
+    let are_digits = |part: &str| part.bytes().all(|byte| byte.is_ascii_digit());
+    // of a year the parser would also take a sign
+    if fraction.is_empty() || !are_digits(seconds) || !are_digits(fraction) {
+        return None;
+    }
+    PrimitiveDateTime::parse(seconds, TIME_VALUE).ok()
 }
 
 /// The same as MDTM shows it.
@@ -327,6 +331,8 @@ mod tests {
             ("20020717210715.2x", false),
             ("20020717250715", false),
             ("2002071721071", false),
+            ("-20020717210715", false),
+            ("+20020717210715", false),
         ] {
             assert_eq!(parsed_time(text).is_some(), is_time, "{text}");
         }
