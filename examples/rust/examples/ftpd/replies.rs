@@ -28,7 +28,8 @@ pub fn of_listing_error(error: &io::Error) -> Reply {
 /// The reply to a command that a fault of a file ends.
 pub fn of_error(error: &io::Error) -> Reply {
     let (code, text) = match Errno::from_io_error(error) {
-        Some(Errno::NOENT | Errno::NOTDIR) => (Code::FILE_ERROR, "No such file or directory"),
+        Some(Errno::NOENT) => (Code::FILE_ERROR, "No such file or directory"),
+        Some(Errno::NOTDIR) => (Code::FILE_ERROR, "Not a directory"),
         Some(Errno::ACCESS | Errno::PERM | Errno::ROFS) => (Code::FILE_ERROR, "Permission denied"),
         Some(Errno::AGAIN) => (Code::TRANSIENT_FILE_ERROR, "The file is busy"),
         Some(Errno::XDEV | Errno::LOOP) => (Code::FILE_ERROR, "It leads out of the folder"),

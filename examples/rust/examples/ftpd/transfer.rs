@@ -187,22 +187,13 @@ impl OpenTransfer {
 
     fn run(mut self, work: Work) -> Result<(), Fault> {
         match work {
-            Work::Send { file, offset, size, representation: Representation::Image }
-                if !self.stream.is_tls() =>
-            {
-                self.send_file(&file, offset, offset + size)
-            }
-            Work::Send { mut file, offset, mut size, representation } => {
-                file.seek(SeekFrom::Start(offset)).map_err(Fault::File)?;
-                self.send(|part| {
-                    let count = (&file).take(PART as u64).read_to_end(part)? as u64;
-                    if count == 0 && size > 0 {
-                        return Err(cut_file());
-                    }
-                    size = size.saturating_sub(count);
-                    *part = representation.sent(mem::take(part));
-                    Ok(())
-                })
+            Work::Send { file, mut offset, size, representation } => {
+                let end = offset + size;
+                let is_unchanged = representation == Representation::Image && !self.stream.is_tls();
+                if is_unchanged && self.send_file(&file, &mut offset, end)? {
+                    return self.finish();
+                }
+                self.copy_file(file, offset, end, representation)
             }
             Work::SendBytes(mut bytes) => self.send(|part| {
                 mem::swap(part, &mut bytes);
@@ -215,18 +206,42 @@ impl OpenTransfer {
         }
     }
 
-    /// Lets the kernel send a file, which had its end there when the transfer began.
-    fn send_file(&mut self, file: &File, mut offset: u64, end: u64) -> Result<(), Fault> {
+    /// Lets the kernel send a file from the offset on, and moves the offset. When the transfer began
+    /// the file had its end there. Returns whether all is sent: not every file can be sent so.
+    fn send_file(&mut self, file: &File, offset: &mut u64, end: u64) -> Result<bool, Fault> {
         loop {
-            match sendfile(self.stream.tcp(), file, Some(&mut offset), PART) {
-                Ok(0) if offset < end => return Err(Fault::File(cut_file())),
-                Ok(0) => return self.finish(),
+            match sendfile(self.stream.tcp(), file, Some(offset), PART) {
+                Ok(0) if *offset < end => return Err(Fault::File(cut_file())),
+                Ok(0) => return Ok(true),
                 Ok(count) => self.count(count),
                 Err(Errno::INTR) => {}
+                // as some files of /proc and of file systems in user space
+                Err(Errno::INVAL) => return Ok(false),
                 Err(Errno::IO) => return Err(Fault::File(Errno::IO.into())),
                 Err(error) => return Err(Fault::Connection(error.into())),
             }
         }
+    }
+
+    /// Reads a file from an offset on and sends it. When the transfer began it had its end there.
+    fn copy_file(
+        &mut self,
+        mut file: File,
+        offset: u64,
+        end: u64,
+        representation: Representation,
+    ) -> Result<(), Fault> {
+        file.seek(SeekFrom::Start(offset)).map_err(Fault::File)?;
+        let mut size = end.saturating_sub(offset);
+        self.send(|part| {
+            let count = (&file).take(PART as u64).read_to_end(part)? as u64;
+            if count == 0 && size > 0 {
+                return Err(cut_file());
+            }
+            size = size.saturating_sub(count);
+            *part = representation.sent(mem::take(part));
+            Ok(())
+        })
     }
 
     /// Sends parts until there is none.
