@@ -1,16 +1,15 @@
 //! The commands that name a file or a directory.
 use crate::commands::{refuse, reply, Answer, Answered};
 use crate::data::DataPort;
-use crate::folder::{is_type, FilePath, Folder};
+use crate::folder::{is_type, FilePath, Folder, New};
 use crate::line::first_word;
 use crate::listing::{fact_list, parsed_time, time_value, Form, Listing};
 use crate::replies;
 use crate::session::Session;
-use crate::transfer::{blocking, size, Representation, Start, Work};
+use crate::transfer::{blocking, size, Representation, Start, Target, Work};
 use crate::users::Rights;
 use rustix::fs::FileType;
 use std::borrow::Cow;
-use std::fs::File;
 use std::io;
 use std::mem;
 use unftp_control::{OwnedLine, Reply, ReplyCode as Code};
@@ -80,12 +79,18 @@ impl Session {
         }
     }
 
-    /// Refuses to receive a file from an offset on where there is none, so that none is made.
-    async fn wants_file(&self, named: &[u8], offset: u64) -> Result<(), Reply> {
-        if offset > 0 {
-            self.look_up(named, Folder::facts).await?;
-        }
-        Ok(())
+    /// What receives a file, and how many bytes it has. Where there is none, it is only made for a
+    /// transfer that begins at its start.
+    async fn target(&self, named: &[u8], offset: u64, new: New) -> Result<(Target, u64), Reply> {
+        let open = if new == New::Appended { Folder::append } else { Folder::write };
+        let target = move |folder: &Folder, path: &FilePath| match open(folder, path) {
+            Err(error) if error.kind() == io::ErrorKind::NotFound && offset == 0 => {
+                folder.may_create(path)?;
+                Ok((Target::Absent(folder.clone(), path.clone(), new), 0))
+            }
+            opened => opened.map(|(file, facts)| (Target::Open(file), size(&facts))),
+        };
+        self.in_folder(named, target).await
     }
 
     /// Changes what a client names, where the user may.
@@ -119,10 +124,9 @@ impl Session {
         let offset = mem::take(&mut self.offset);
         self.writes()?;
         self.data_connection()?;
-        self.wants_file(named, offset).await?;
-        let (file, facts) = self.in_folder(named, Folder::write).await?;
-        let start = Start::Offset(self.start(offset, size(&facts))?);
-        self.receive(file, start, "Opening the data connection")
+        let (target, size) = self.target(named, offset, New::Written).await?;
+        let start = Start::Offset(self.start(offset, size)?);
+        self.receive(target, start, "Opening the data connection")
     }
 
     /// APPE after REST is only taken where both mean the same.
@@ -130,12 +134,11 @@ impl Session {
         let offset = mem::take(&mut self.offset);
         self.writes()?;
         self.data_connection()?;
-        self.wants_file(named, offset).await?;
-        let (file, facts) = self.in_folder(named, Folder::append).await?;
-        if offset > 0 && offset != size(&facts) {
+        let (target, size) = self.target(named, offset, New::Appended).await?;
+        if offset > 0 && offset != size {
             return Err(invalid_restart());
         }
-        self.receive(file, Start::End, "Opening the data connection")
+        self.receive(target, Start::End, "Opening the data connection")
     }
 
     /// The reply names the file (RFC 1123, section 4.1.2.9).
@@ -143,14 +146,20 @@ impl Session {
         self.offset = 0;
         self.writes()?;
         self.data_connection()?;
-        let (file, path) = self.in_folder(b"", Folder::create_unique).await?;
-        let name = String::from_utf8_lossy(path.name().unwrap_or_default());
-        self.receive(file, Start::Offset(0), format!("FILE: {name}"))
+        let path = self.in_folder(b"", Folder::choose).await?;
+        let text = format!("FILE: {}", String::from_utf8_lossy(path.name().unwrap_or_default()));
+        let target = Target::Absent(self.server.folder.clone(), path, New::Unique);
+        self.receive(target, Start::Offset(0), text)
     }
 
     /// The answer of a file that is received.
-    fn receive(&self, file: File, start: Start, text: impl Into<Cow<'static, str>>) -> Answered {
-        let work = Work::Receive { file, start, representation: self.representation };
+    fn receive(
+        &self,
+        target: Target,
+        start: Start,
+        text: impl Into<Cow<'static, str>>,
+    ) -> Answered {
+        let work = Work::Receive { target, start, representation: self.representation };
         Ok(Answer::Transfer(opening(text), work))
     }
 

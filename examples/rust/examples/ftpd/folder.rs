@@ -63,6 +63,17 @@ impl FilePath {
     }
 }
 
+/// What a file is made for.
+#[derive(Clone, Copy, Debug, PartialEq, Eq)]
+pub enum New {
+    /// To be written: by STOR.
+    Written,
+    /// To be written at its end: by APPE.
+    Appended,
+    /// To be the first of its name: by STOU.
+    Unique,
+}
+
 /// How often a path is opened that the kernel says to try again.
 const TRIES: usize = 1000;
 
@@ -130,25 +141,43 @@ impl Folder {
         self.open_file(path, OFlags::RDONLY)
     }
 
-    /// Opens a file to be written, and makes it where there is none. Nothing of it is lost yet.
+    /// Opens a file to be written. Nothing of it is lost yet.
     pub fn write(&self, path: &FilePath) -> io::Result<(File, Stat)> {
-        self.open_file(path, OFlags::WRONLY | OFlags::CREATE)
+        self.open_file(path, OFlags::WRONLY)
     }
 
-    /// Opens a file to be written at its end, and makes it where there is none.
+    /// Opens a file to be written at its end.
     pub fn append(&self, path: &FilePath) -> io::Result<(File, Stat)> {
-        self.open_file(path, OFlags::WRONLY | OFlags::CREATE | OFlags::APPEND)
+        self.open_file(path, OFlags::WRONLY | OFlags::APPEND)
     }
 
-    /// Makes a file with a name of its own in a directory.
-    pub fn create_unique(&self, directory: &FilePath) -> io::Result<(File, FilePath)> {
+    /// Makes a file to be written. One that is there is opened, unless it is to be a new one.
+    pub fn create(&self, path: &FilePath, new: New) -> io::Result<File> {
+        let flags = match new {
+            New::Written => OFlags::empty(),
+            New::Appended => OFlags::APPEND,
+            New::Unique => OFlags::EXCL,
+        };
+        Ok(self.open_file(path, OFlags::WRONLY | OFlags::CREATE | flags)?.0)
+    }
+
+    /// Whether a file may be made at a path, as far as that shows before.
+    pub fn may_create(&self, path: &FilePath) -> io::Result<()> {
+        let (parent, _) = self.parent(path)?;
+        let access = fs::Access::WRITE_OK | fs::Access::EXEC_OK;
+        Ok(fs::accessat(&parent, ".", access, AtFlags::empty())?)
+    }
+
+    /// A name in a directory that no file has, nor one that was chosen before.
+    pub fn choose(&self, directory: &FilePath) -> io::Result<FilePath> {
         loop {
             let number = self.chosen.fetch_add(1, Ordering::Relaxed);
             let path = directory.join(format!("upload.{number}").as_bytes());
-            let flags = OFlags::WRONLY | OFlags::CREATE | OFlags::EXCL;
-            match self.open_file(&path, flags) {
-                Err(error) if error.kind() == io::ErrorKind::AlreadyExists => {}
-                opened => return opened.map(|(file, _)| (file, path)),
+            match self.has_entry(&path) {
+                Err(error) if error.kind() == io::ErrorKind::NotFound => {
+                    return self.may_create(&path).map(|()| path);
+                }
+                found => found?,
             }
         }
     }

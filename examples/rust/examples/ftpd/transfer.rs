@@ -1,5 +1,6 @@
 //! What is sent and received over a data connection.
 use crate::data::{DataPort, DataStream, Ends};
+use crate::folder::{FilePath, Folder, New};
 use crate::listing::Listing;
 use crate::replies;
 use rustix::fs::{sendfile, Stat};
@@ -40,7 +41,24 @@ pub enum Work {
     /// Sends a listing.
     List(Box<Listing>),
     /// Receives a file.
-    Receive { file: File, start: Start, representation: Representation },
+    Receive { target: Target, start: Start, representation: Representation },
+}
+
+/// The file that is received.
+pub enum Target {
+    /// One that is there, and open.
+    Open(File),
+    /// One that is made once the data connection is open, so that none is left where it never opens.
+    Absent(Folder, FilePath, New),
+}
+
+impl Target {
+    fn open(self) -> io::Result<File> {
+        match self {
+            Target::Open(file) => Ok(file),
+            Target::Absent(folder, path, new) => folder.create(&path, new),
+        }
+    }
 }
 
 /// Where a received file begins.
@@ -57,6 +75,8 @@ pub enum Start {
 pub enum Fault {
     /// No data connection could be opened.
     NoConnection(io::Error),
+    /// No file could be made.
+    NoFile(io::Error),
     /// The data connection broke.
     Connection(io::Error),
     /// The file could not be read or written.
@@ -70,6 +90,7 @@ impl Fault {
             Fault::NoConnection(_) => {
                 Reply::new(Code::CANT_OPEN_DATA_CONNECTION, "Can't open the data connection")
             }
+            Fault::NoFile(error) => replies::of_error(error),
             Fault::Connection(error)
                 if matches!(error.kind(), ErrorKind::TimedOut | ErrorKind::WouldBlock) =>
             {
@@ -88,6 +109,7 @@ impl Display for Fault {
     fn fmt(&self, f: &mut Formatter<'_>) -> fmt::Result {
         match self {
             Fault::NoConnection(error) => write!(f, "no data connection: {error}"),
+            Fault::NoFile(error) => write!(f, "no file: {error}"),
             Fault::Connection(error) => write!(f, "the data connection: {error}"),
             Fault::File(error) => write!(f, "the file: {error}"),
         }
@@ -200,7 +222,8 @@ impl OpenTransfer {
                 Ok(())
             }),
             Work::List(mut listing) => self.send(|part| listing.next_part(part)),
-            Work::Receive { file, start, representation } => {
+            Work::Receive { target, start, representation } => {
+                let file = target.open().map_err(Fault::NoFile)?;
                 self.receive(Sink::new(file, start, representation).map_err(Fault::File)?)
             }
         }
