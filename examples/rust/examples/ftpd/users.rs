@@ -44,11 +44,17 @@ impl Users {
     ///
     /// # Errors
     ///
-    /// Where the file can't be read, or a line of it is no user.
+    /// Where the file can't be read, or a line of it is no user or one that could never log in.
     pub fn read(file: Option<&Path>, anonymous: bool) -> io::Result<Users> {
         let text = file.map_or(Ok(String::new()), fs::read_to_string)?;
-        let lines = text.lines().filter(|line| !line.is_empty() && !line.starts_with('#'));
-        let users: HashMap<_, _> = lines.map(user_of_line).collect::<io::Result<_>>()?;
+        let mut users = HashMap::new();
+        for (line, number) in text.lines().zip(1..) {
+            if !line.is_empty() && !line.starts_with('#') {
+                add_user(&mut users, line, anonymous).map_err(|fault| {
+                    io::Error::new(io::ErrorKind::InvalidData, format!("line {number} {fault}"))
+                })?;
+            }
+        }
         let decoy = users.values().next().map_or(NO_HASH, |user: &User| &user.hash).to_string();
         let processors = thread::available_parallelism().map_or(1, |number| number.get());
         Ok(Users { users, anonymous, decoy, hashing: Semaphore::new(processors) })
@@ -56,9 +62,7 @@ impl Users {
 
     /// What the user of this name and password may do; `None` where there is none.
     pub async fn rights(&self, name: &[u8], password: &[u8]) -> Option<Rights> {
-        let is_anonymous =
-            [&b"anonymous"[..], b"ftp"].iter().any(|it| name.eq_ignore_ascii_case(it));
-        if self.anonymous && is_anonymous {
+        if self.anonymous && is_anonymous(name) {
             return Some(Rights::Read);
         }
         let user = std::str::from_utf8(name).ok().and_then(|name| self.users.get(name));
@@ -70,19 +74,49 @@ impl Users {
     }
 }
 
-/// The user of a line: a name, a hash, and perhaps `read`.
-fn user_of_line(line: &str) -> io::Result<(String, User)> {
-    let invalid = || {
-        let name = line.split(':').next().unwrap_or_default();
-        io::Error::new(io::ErrorKind::InvalidData, format!("the line of `{name}` is no user"))
-    };
+/// Adds the user of a line, or returns what is wrong with it.
+fn add_user(
+    users: &mut HashMap<String, User>,
+    line: &str,
+    anonymous: bool,
+) -> Result<(), &'static str> {
     let (name, hash, rights) = match line.split(':').collect::<Vec<_>>()[..] {
         [name, hash] => (name, hash, Rights::Write),
         [name, hash, "read"] => (name, hash, Rights::Read),
-        _ => return Err(invalid()),
+        _ => return Err("is neither NAME:HASH nor NAME:HASH:read"),
     };
-    PasswordHash::new(hash).map_err(|_| invalid())?;
-    Ok((name.to_string(), User { hash: hash.to_string(), rights }))
+    if name.is_empty() {
+        return Err("has no name");
+    }
+    if anonymous && is_anonymous(name.as_bytes()) {
+        return Err("has the name of anybody who may read: that needs --no-anonymous");
+    }
+    if !is_hash(hash) {
+        return Err("has no hash as --hash-password prints it");
+    }
+    let user = User { hash: hash.to_string(), rights };
+    match users.insert(name.to_string(), user) {
+        Some(_) => Err("has the name of another line"),
+        None => Ok(()),
+    }
+}
+
+/// Whether this is a name by which anybody may read.
+fn is_anonymous(name: &[u8]) -> bool {
+    [&b"anonymous"[..], b"ftp"].iter().any(|it| name.eq_ignore_ascii_case(it))
+}
+
+/// Whether a password can have this hash. None has one of another algorithm, without a salt, or of
+/// another length than it says.
+fn is_hash(hash: &str) -> bool {
+    let Ok(hash) = PasswordHash::new(hash) else { return false };
+    let Ok(params) = Params::try_from(&hash) else { return false };
+    let (Some(salt), Some(output)) = (hash.salt, hash.hash) else { return false };
+    // one round shows it as well as many
+    let params = Params { rounds: 1, ..params };
+    let (algorithm, version) = (Some(hash.algorithm), hash.version);
+    let made = Pbkdf2.hash_password_customized(b"", algorithm, version, params, salt);
+    made.is_ok_and(|made| made.hash.is_some_and(|it| it.len() == output.len()))
 }
 
 fn is_password(password: &[u8], hash: &str) -> bool {
