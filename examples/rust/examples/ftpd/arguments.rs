@@ -90,6 +90,7 @@ fn number(matches: &ArgMatches, name: &str) -> u32 {
 
 fn command() -> Command {
     Command::new("ftpd")
+        .version(env!("CARGO_PKG_VERSION"))
         .about(
             "Serves a folder over FTP. It prints its ports, in the order of --listen, as one line.",
         )
