@@ -5,8 +5,9 @@
  *
  * It takes the file in binary, over a data connection that it opens (RFC 2428). A line on standard
  * error shows how many bytes have come, and how many percent these are where the server says the
- * file's size (RFC 3659). The status is 0 where the file is complete and the session has ended, and
- * else 1; what has come before a failure stays in the output. TLS is left out.
+ * file's size (RFC 3659). The status is 0 where the file is complete, with no fewer bytes than the
+ * server has said, and the session has ended, and else 1; what has come before a failure stays in
+ * the output. TLS is left out.
  */
 #define _POSIX_C_SOURCE 200809L
 
@@ -338,6 +339,11 @@ static void download(struct session *session, const char *path, const char *name
     if (final_code(session, UNFTP_TO_COMMAND) / 100 != 2)
         fail_reply(session, path);
     show(&progress, "\n");
+    if (progress.has_size && progress.received < progress.size) {
+        fprintf(stderr, "get: %s: only %" PRIu64 " of %" PRIu64 " bytes came\n", path,
+                progress.received, progress.size);
+        exit(EXIT_FAILURE);
+    }
 }
 
 int main(int count, char **arguments)

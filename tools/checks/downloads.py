@@ -162,7 +162,12 @@ def check_replies(*program):
     wants_file(downloaded(program, changed("RETR a", "150 Here\r\nDATA226 Done\r\n421 Bye\r\n")), CONTENT)
     status, said, output = downloaded(program, changed("RETR a", "150 Here\r\nDATA426 Aborted\r\n"))
     wants("a transfer that is aborted", (status, said.splitlines()[-1:], output), (1, ["get: a: 426 Aborted"], CONTENT))
-    return f"{len(DISORDERLY) + 2} dialogues"
+    status, said, output = downloaded(program, changed("SIZE a", f"213 {len(CONTENT) + 1}\r\n"))
+    wants("a file that is cut", (status, said.splitlines()[-1:], output), (1, [f"get: a: only {len(CONTENT)} of {len(CONTENT) + 1} bytes came"], CONTENT))
+    for replies in ["550 No\r\n", "213 many\r\n", f"213 {len(CONTENT) - 1}\r\n"]:
+        status, _, output = downloaded(program, changed("SIZE a", replies))
+        wants(f"a file whose size is {replies!r}", (status, output), (0, CONTENT))
+    return f"{len(DISORDERLY) + 6} dialogues"
 
 
 CHECKS = {

@@ -135,10 +135,15 @@ impl Control {
         let mut data = connect(host, self.passive_port()?)?;
         self.send(&Command::Retr { path: path.into() })?;
         self.reply()?.wanted(&[1], path)?;
-        copy(&mut data, &mut File::create(output)?, size)?;
+        let count = copy(&mut data, &mut File::create(output)?, size)?;
         drop(data);
         self.final_reply()?.wanted(&[2], path)?;
-        Ok(())
+        match size {
+            Some(size) if count < size => {
+                Err(format!("{path}: only {count} of {size} bytes came").into())
+            }
+            _ => Ok(()),
+        }
     }
 }
 
@@ -155,8 +160,8 @@ fn printable(text: &[u8]) -> String {
     text.iter().map(shown).collect()
 }
 
-/// Copies all bytes, and shows how many there are so far.
-fn copy(data: &mut impl Read, output: &mut impl Write, size: Option<u64>) -> Outcome<()> {
+/// Copies all bytes, shows how many there are so far, and returns how many there were.
+fn copy(data: &mut impl Read, output: &mut impl Write, size: Option<u64>) -> Outcome<u64> {
     let (mut piece, mut count) = ([0; 65536], 0);
     loop {
         show(count, size);
@@ -169,7 +174,8 @@ fn copy(data: &mut impl Read, output: &mut impl Write, size: Option<u64>) -> Out
         }
     }
     eprintln!();
-    Ok(output.flush()?)
+    output.flush()?;
+    Ok(count)
 }
 
 fn show(count: u64, size: Option<u64>) {
