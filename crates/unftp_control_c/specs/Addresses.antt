@@ -1,7 +1,7 @@
 -- The addresses of data connections, as a caller in C gives and gets them.
-use Rattle.std.specs.Prelude.{⊤, ◌≡◌, ◌⊎◌, ◌<◌, ◌==◌, ℕ, List, [], if◌then◌else◌, length, nat_le, nat_lt, Option, None, Some, Result, Ok, Err, option_map}
+use Rattle.std.specs.Prelude.{⊤, ◌≡◌, ◌⊎◌, ◌==◌, ℕ, [], if◌then◌else◌, length, nat_le, nat_lt, Option, None, Some, Result, Ok, Err, option_map}
 use Rattle.std.specs.Net.Addr.{ipv4_octets, ipv6_octets, ipv6_segments, segments_of}
-use Rattle.std.specs.Net.Socket.{IsPlainSocket, socket_ip, socket_port}
+use Rattle.std.specs.Net.Socket.{socket_ip, socket_port}
 use Rattle.std.specs.declared.net.ip_addr.IpAddr.{IpAddr}
 use Rattle.std.specs.declared.net.ip_addr.IpAddr.TheVariants.{V4, V6}
 use Rattle.std.specs.declared.net.socket_addr.SocketAddr.{SocketAddr}

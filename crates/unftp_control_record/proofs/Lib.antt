@@ -6,3 +6,4 @@ pub mod LawLemmas
 pub mod SameLemmas
 pub mod TextLemmas
 pub mod BrokenLemmas
+pub mod RoomLemmas

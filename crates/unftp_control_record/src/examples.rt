@@ -1,16 +1,17 @@
 //! Examples of the definitions.
 #![tactic(auto, unfolding(unftp_control_defs::proofs::Computing::at_bytes))]
 
-ghost use Rattle.std.specs.Prelude.{◌≡◌, ◌∷◌, [], None, Some, codes, false, length, true};
+ghost use Rattle.std.specs.Prelude.{◌≡◌, ◌∷◌, [], None, Some, Err, codes, false, length, true};
 ghost use Rattle.std.specs.declared.alloc.Global.{Global as RustGlobal};
 ghost use Rattle.unftp_control_defs.specs.Bytes.{Bytes};
 ghost use Rattle.unftp_control_read.specs.ReplyDecoding.{PendingReplies};
+ghost use Rattle.unftp_control_read.specs.declared.errors.NextReplyError.{NextReplyError as RustError};
 ghost use Rattle.unftp_control_read.specs.declared.errors.NextReplyError.TheVariants as NextReplyError;
 ghost use Rattle.unftp_control_serve.specs.Decoder.{no_bytes, pushed};
 ghost use Rattle.unftp_control_serve.specs.declared.event.Event.{Event as RustEvent};
 ghost use Rattle.unftp_control_record.specs.ExchangeLine.{exchange_line, lines_text, replies_text, reply_text};
 ghost use Rattle.unftp_control_record.specs.Exchanges.{Entry, IsWhole, all_asked, complete_exchanges, entries, log_lines, open_after, open_part};
-ghost use Rattle.unftp_control_record.specs.Recording.{IsBroken, IsNew, IsRecorded, IsUnanswered, IsWaiting, MeansError, joined, one_entry, sent_piece};
+ghost use Rattle.unftp_control_record.specs.Recording.{IsBroken, IsNew, IsRecorded, IsUnanswered, IsWaiting, MeansError, TakesUnanswered, joined, one_entry, sent_piece};
 ghost use Rattle.unftp_control_record.specs.ToCome.{AreRead, HasNext, HasNoLine, HasNoReply, IsLogged, exchanges_from, exchanges_to_come, lines_to_come, new_lines, replies_so_far, taken_first};
 ghost use Rattle.unftp_control_record.specs.declared.recorder.Limits.{Limits as RustLimits};
 ghost use Rattle.unftp_control_record.specs.declared.recorder.Recorder.{Recorder as RustRecorder};
@@ -126,6 +127,12 @@ pub fn recorders_wait()
         → MeansError true recorder NextReplyError.Malformed → ⊥ }
     ensures memory { (recorder : RustRecorder)
         → IsBroken recorder NextReplyError.OutOfMemory → ⊥ }
+    ensures memory_for_no_line { (alloc : RustGlobal) (recorder : RustRecorder)
+        → recorder.sent ≡ record (new_lines alloc 6) { first = First.Pending }
+        → MeansError true recorder NextReplyError.OutOfMemory → ⊥ }
+    ensures no_line_unanswered { (alloc : RustGlobal) (before after : RustRecorder)
+        (error : RustError) → after.sent ≡ record (new_lines alloc 6) { first = First.Pending }
+        → TakesUnanswered before (Err error) after → ⊥ }
     ensures unanswered { (before after : RustRecorder) (entry : Entry)
         → IsUnanswered before entry after → replies_so_far after.turn ≡ entry.replies
         → replies_so_far before.turn ≡ [] }

@@ -1,5 +1,5 @@
 //! What the client sent.
-ghost use Rattle.std.specs.Prelude.{◌≡◌, ◌≤◌, ◌++◌, [], OnErr, OnOk};
+ghost use Rattle.std.specs.Prelude.{◌≡◌, ◌<◌, ◌≤◌, ◌+◌, ◌++◌, [], OnErr, OnOk, length};
 ghost use Rattle.unftp_control_defs.specs.Bytes.{Bytes};
 ghost use Rattle.unftp_control_record.specs.ToCome.{HasNext, HasNoLine, IsLogged, SameToCome, TakesLine, lines_to_come, new_lines, taken_first, taken_texts};
 ghost use Rattle.unftp_control_record.specs.declared.sent.First.TheVariants.{Pending as NotTaken};
@@ -50,6 +50,8 @@ impl SentLines {
         ensures err { OnErr result (SameToCome self.old self.new) }
         ensures limit { self.new.decoder.limit ≡ self.old.decoder.limit }
         ensures some { OnErr result (piece.now ≡ [] → ¬ IsLogged self.old.first) }
+        ensures memory { OnErr result (IsLogged self.old.first
+            → self.old.decoder.held < self.old.decoder.buffered + length piece.now) }
     {
         log_first(&mut self.first, self.decoder.line(), self.alloc)?;
         self.decoder.push(piece)

@@ -1,8 +1,0 @@
-use Rattle.std.proofs.Common.{◌≡◌, ◌++◌, flat_map, map, take}
-use Rattle.unftp_control_read.specs.ReplyDecoding.{content}
-use Rattle.unftp_control_record.specs.ExchangeLine.{further_reply}
-use Rattle.unftp_control_record.proofs.write.append_replies.Given as goal
-
-abbrev pub invariant-loop-reply : goal.invariant-loop-reply
-invariant-loop-reply l = l.buf.items ≡ l.initial.buf.items
-    ++ flat_map further_reply (map content (take l.reply-index l.further))
