@@ -319,7 +319,7 @@ static bool answer_line(struct client *client, enum unftp_result result,
     case UNFTP_DONE: case UNFTP_MORE: case UNFTP_INVALID_COMMAND: case UNFTP_INVALID_UTF8:
     case UNFTP_INVALID_EOL: case UNFTP_LINE_TOO_LONG: case UNFTP_OUT_OF_MEMORY:
     case UNFTP_NO_ROOM: case UNFTP_NO_LINE: case UNFTP_MALFORMED: case UNFTP_UNKNOWN_CODE:
-    case UNFTP_INVALID_ARGUMENT:
+    case UNFTP_INVALID_ARGUMENT: case UNFTP_NO_ADDRESS: case UNFTP_UNKNOWN_PROTOCOL:
         break;
     }
     return answer_refusal(client, result);
