@@ -205,3 +205,27 @@ fn text(form: u32, ip: &[u8], port: u16) -> Result<String, Error> {
     Ok(String::from_utf8(bytes)
         .unwrap_or_else(|_| unreachable!("`IsText`: each byte of an address is printable ASCII")))
 }
+
+#[cfg(test)]
+mod tests {
+    use super::*;
+    use std::net::{Ipv6Addr, SocketAddrV6};
+
+    #[test]
+    fn a_scope_is_left_out() {
+        let address = SocketAddrV6::new(Ipv6Addr::LOCALHOST, 6275, 3, 2);
+        assert_eq!(extended(address.into()).as_deref(), Ok("|2|::1|6275|"));
+    }
+
+    #[test]
+    fn the_longest_address_has_its_room() {
+        let address = SocketAddr::from(([0xffff; 8], 65535));
+        assert_eq!(extended(address).map(|text| text.len()), Ok(LONGEST));
+    }
+
+    #[test]
+    fn errors_have_texts() {
+        assert_eq!(AddressError::Malformed.to_string(), "malformed address");
+        assert_eq!(AddressError::UnknownProtocol.to_string(), "unknown network protocol");
+    }
+}
