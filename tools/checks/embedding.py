@@ -360,36 +360,37 @@ SHOWN = {b"227": rb"\((\d+),(\d+),(\d+),(\d+),(\d+),(\d+)\)", b"229": rb"\(\|\|\
 
 
 def named_addresses():
-    """The last lines of the replies 227 and 229 that servers wrote, as cases with the address that each shows."""
-    for name in ["server_replies.tsv", "connections.tsv"]:
-        for case, _ in rows(name):
-            words = case.split("\t")
-            written = b"".join(unquoted(word) for before, word in zip(words, words[1:]) if before != "send" and word.startswith('"'))
-            for code, text in re.findall(rb"^(227|229) (.*)\r$", written, re.M):
-                numbers = [int(number) for number in re.search(SHOWN[code], text).groups()]
-                *host, port = [*numbers[:4], 256 * numbers[4] + numbers[5]] if code == b"227" else numbers
-                host = f"ip={'.'.join(map(str, host))} " if host else ""
-                yield f"read_address\t{code.decode()}\t{quoted(text)}", f"{host}port={port}"
+    """The last lines of the replies 227 and 229 that servers wrote, each with the address that it shows."""
+    for row in rows("server_replies.tsv") + rows("connections.tsv"):
+        words = row.case.split("\t")
+        written = b"".join(unquoted(word) for before, word in zip(words, words[1:]) if before != "send" and word.startswith('"'))
+        for code, text in re.findall(rb"^(227|229) (.*)\r$", written, re.M):
+            numbers = [int(number) for number in re.search(SHOWN[code], text).groups()]
+            *host, port = [*numbers[:4], 256 * numbers[4] + numbers[5]] if code == b"227" else numbers
+            host = f"ip={'.'.join(map(str, host))} " if host else ""
+            yield row.asked(f"read_address\t{code.decode()}\t{quoted(text)}", f"{host}port={port}")
 
 
-def written_addresses(answers):
-    """The calls that write the addresses of these answers, each with what the text is read as: in each form that has such a host."""
-    found = [re.fullmatch(r"(?:ip=(\S+) )?port=(\d+)", answer) for answer in answers]
-    for answer, host, port in dict.fromkeys((read[0], *read.groups()) for read in found if read):
-        yield f"write_address\t229\t-\t{port}", f"port={port}"
+def written_addresses(asked):
+    """The calls that write the addresses which these rows read, in each form that has such a host; their texts are read as this answer."""
+    for row in asked:
+        read = re.fullmatch(r"(?:ip=(\S+) )?port=(\d+)", row.answer)
+        if not read:
+            continue
+        host, port = read.groups()
+        yield row.asked(f"write_address\t229\t-\t{port}", f"port={port}")
         for form in [] if host is None else ["PORT", "227", "EPRT"] if "." in host else ["EPRT"]:
-            yield f"write_address\t{form}\t{host}\t{port}", answer
+            yield row.asked(f"write_address\t{form}\t{host}\t{port}")
 
 
 def check_addresses(*program):
     """The rows by hand; what is written for each of their addresses; and what servers named."""
     by_hand, named = rows("addresses.tsv"), [*named_addresses()]
-    calls, wanted = zip(*written_addresses([answer for _, answer in by_hand]))
-    texts = answers_of(program, calls)
-    read_back = [(f"read_address\t{call.split()[1]}\t{text}", answer) for call, text, answer in zip(calls, texts, wanted)]
-    for found in [by_hand, read_back, named]:
-        cases, expected = zip(*found)
-        wants("the number of rows that are compared", compare(cases, answers_of(program, cases), expected), len(cases))
+    written = [*written_addresses(by_hand)]
+    texts = answers_of(program, written)
+    read_back = [row.asked("\t".join(["read_address", row.case.split("\t")[1], text]), how=", read back") for row, text in zip(written, texts)]
+    for asked in [by_hand, read_back, named]:
+        wants("the number of rows that are compared", len(compare(program, asked)), len(asked))
     return f"{len(by_hand)} rows, {len(read_back)} texts read back, {len(named)} replies of servers"
 
 
