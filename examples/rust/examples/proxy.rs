@@ -2,8 +2,9 @@
 //! that it allows, and relays data connections. With a certificate it speaks TLS to clients that
 //! ask for it. It prints its port as one line, and logs each exchange on standard error.
 use clap::{Arg, ArgAction};
+use std::io::{self, Write};
 use std::process::ExitCode;
-use unftp_control_examples::relay::command_line::{command, option, run, start_log};
+use unftp_control_examples::relay::command_line::{command, option, run};
 use unftp_control_examples::relay::rules::Allowed;
 
 #[tokio::main]
@@ -22,9 +23,8 @@ async fn main() -> ExitCode {
         None if matches.get_flag("read-only") => Allowed::reading(),
         None => Allowed::known(),
     };
-    start_log();
     if let Err(error) = run(&matches, allowed, None).await {
-        eprintln!("proxy: {error}");
+        let _ = writeln!(io::stderr(), "proxy: {error}");
         return ExitCode::FAILURE;
     }
     ExitCode::SUCCESS

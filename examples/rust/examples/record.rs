@@ -2,13 +2,13 @@
 //! does, refuses no verb that can be relayed, and appends a line to the file for each exchange: an
 //! [`Exchange`] as an object of JSON. That has the line as a log shows it, so not what PASS has, and
 //! no text of a reply to a line of which a part is hidden.
-use std::io;
+use std::io::{self, Write};
 use std::path::{Path, PathBuf};
 use std::process::ExitCode;
 use tokio::fs::{File, OpenOptions};
 use tokio::io::{AsyncWriteExt, BufWriter};
 use tokio::sync::mpsc;
-use unftp_control_examples::relay::command_line::{command, path, run, start_log};
+use unftp_control_examples::relay::command_line::{command, path, run};
 use unftp_control_examples::relay::exchange::Exchange;
 use unftp_control_examples::relay::rules::Allowed;
 
@@ -52,9 +52,8 @@ async fn record(matches: &clap::ArgMatches) -> io::Result<()> {
 async fn main() -> ExitCode {
     let output = path("output", "FILE", "The file to append to").required(true);
     let matches = command("record", "A recorder before an FTP server").arg(output).get_matches();
-    start_log();
     if let Err(error) = record(&matches).await {
-        eprintln!("record: {error}");
+        let _ = writeln!(io::stderr(), "record: {error}");
         return ExitCode::FAILURE;
     }
     ExitCode::SUCCESS

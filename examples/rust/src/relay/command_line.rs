@@ -3,16 +3,18 @@ use super::exchange::Exchange;
 use super::rules::Allowed;
 use super::{Limits, Relay};
 use crate::listening::{self, serve};
+use crate::log;
 use crate::stream::tls_acceptor;
 use clap::builder::NonEmptyStringValueParser;
 use clap::{value_parser, Arg, ArgMatches, Command};
-use std::io;
+use std::io::{self, Write};
 use std::net::SocketAddr;
 use std::path::PathBuf;
 use std::sync::Arc;
 use std::time::Duration;
 use tokio::net::TcpListener;
 use tokio::sync::mpsc;
+use tracing::level_filters::LevelFilter;
 
 /// How long the sessions have to end where the program ends.
 const ENDING: Duration = Duration::from_secs(15);
@@ -57,12 +59,8 @@ pub fn path(name: &'static str, value: &'static str, help: &'static str) -> Arg 
     option(name, value, help).value_parser(value_parser!(PathBuf))
 }
 
-/// Logs to standard error.
-pub fn start_log() {
-    tracing_subscriber::fmt().with_writer(io::stderr).with_ansi(false).with_target(false).init();
-}
-
-/// Relays clients until a signal ends that. It prints the port once it listens.
+/// Relays clients until a signal ends that, and logs to standard error. It prints the port once it
+/// listens.
 ///
 /// # Errors
 ///
@@ -72,6 +70,7 @@ pub async fn run(
     allowed: Allowed,
     exchanges: Option<mpsc::Sender<Exchange>>,
 ) -> io::Result<()> {
+    let _end = log::start(LevelFilter::INFO)?;
     let number = |name| matches.get_one::<u32>(name).copied().unwrap_or_default();
     let seconds = |name| Duration::from_secs(number(name).into());
     let file = |name| matches.get_one::<PathBuf>(name);
@@ -97,6 +96,6 @@ pub async fn run(
     let address = matches.get_one::<SocketAddr>("listen").copied();
     let address = address.ok_or(io::ErrorKind::InvalidInput)?;
     let listener = TcpListener::bind(address).await?;
-    println!("{}", listener.local_addr()?.port());
+    writeln!(io::stdout(), "{}", listener.local_addr()?.port())?;
     serve(vec![listener], limits, ENDING, |connected| relay.clone().session(connected)).await
 }
