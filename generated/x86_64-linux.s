@@ -4,7 +4,7 @@
  *
  * made by: tools/generated --write
  * toolchain: rattle-kit-13f logic dac8208d650f15bf
- * sources: sha256 c35d5f2837c7cfa14e53b92b8aac6113da12e39f084ed26354599a3d32c9fd38
+ * sources: sha256 28bcc6104b878699394d8b9643a2e27c2f14a53fd755007e6233a11c62d5f1ea
  */
 	.section	.rodata.cst16,"aM",@progbits,16
 	.p2align	4, 0x0
