@@ -4,7 +4,7 @@ use Rattle.unftp_control.specs.Bytes.{Bytes}
 use Rattle.unftp_control.specs.Decoder.{MayRunOut, Pending, StaysPending, TakesLine, kept_bytes}
 use Rattle.unftp_control.specs.Events.{FtpEvent}
 use Rattle.unftp_control.specs.FtpReply.{encoded}
-use Rattle.unftp_control.proofs.DecoderLemmas.{MayRunOut-taken}
+use Rattle.unftp_control.proofs.ClientLineLemmas.{MayRunOut-taken}
 use Rattle.calling.specs.declared.event_loop.Turn.{Turn}
 use Rattle.calling.specs.declared.event_loop.Turn.TheVariants.{Close}
 use Rattle.calling.specs.EventLoop.{AnswersNext, LeavesUnanswered, left_after, loop_replies, turn_after}

@@ -10,7 +10,7 @@ use Rattle.unftp_control.specs.Bytes.{Bytes}
 use Rattle.unftp_control.specs.Events.{events}
 use Rattle.unftp_control.specs.Run.{SessionLaw, run_for}
 use Rattle.unftp_control.specs.Endings.{AllAnswered, PieceOutcome, Snapshot}
-use Rattle.unftp_control.specs.Engine.{EngineState, IsRunning, bytes_with, fed, more_left}
+use Rattle.unftp_control.specs.Engine.{EngineState, IsRunning, LacksPieceRoom, bytes_with, fed, more_left}
 use Rattle.unftp_control.specs.declared.serve.ServeError.{ServeError}
 use Rattle.unftp_control.proofs.SoFarLemmas.{AnsweredSoFar, AnsweredSoFar-ended, AnsweredSoFar-on, RunFailed-on, gone_on}
 use Rattle.calling.specs.Pieces.{FailsAtPiece}
@@ -42,20 +42,21 @@ module _ {S : Type 0} {law : SessionLaw S} {m n : Snapshot S} {sent : Bytes} {en
   pub FailsAtPiece-so : {k : Snapshot S} {pieces : List Bytes} {error : ServeError} {T : Type 0}
       {result : Result T ServeError} → ComesAfter sent piece pieces → result ≡ Err error
       → (IsRunning engine
-      → PieceOutcome engine.limit law n (bytes_with engine piece) piece k result)
+      → PieceOutcome engine.limit law n (bytes_with engine piece) (LacksPieceRoom engine piece) k
+      result)
       → (engine.finished ≡ true → IsTrue (is_ok result))
       → FailsAtPiece law m pieces k error
   FailsAtPiece-so {k} {pieces} {error} {T} place failed outcome over = by_end engine.finished refl
     where
       by_outcome : engine.finished ≡ false
-          → PieceOutcome {S = S} {T = T} engine.limit law n (bytes_with engine piece) piece k
-          (Err error) → FailsAtPiece law m pieces k error
-      by_outcome on (inl (out_of_memory, some, kept)) = record {
+          → PieceOutcome {S = S} {T = T} engine.limit law n (bytes_with engine piece)
+          (LacksPieceRoom engine piece) k (Err error) → FailsAtPiece law m pieces k error
+      by_outcome on (inl (out_of_memory, lacks, kept)) = record {
         first = place.first;
         last = piece;
         later = place.later;
         whole = place.whole;
-        failed = inl (out_of_memory, some, rw (place.same, kept) (gone_on so_far on).answered);
+        failed = inl (out_of_memory, lacks.0, rw (place.same, kept) (gone_on so_far on).answered);
       }
       by_outcome on (inr (done, failed)) = record {
         first = place.first;

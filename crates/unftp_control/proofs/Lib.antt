@@ -14,7 +14,7 @@ pub use Rattle.unftp_control_defs.proofs.EncodingLemmas
 pub use Rattle.unftp_control_defs.proofs.ReplyLemmas
 pub use Rattle.unftp_control_defs.proofs.LineLemmas
 pub use Rattle.unftp_control_defs.proofs.RunLemmas
-pub use Rattle.unftp_control_serve.proofs.DecoderLemmas
+pub use Rattle.unftp_control_serve.proofs.ClientLineLemmas
 pub use Rattle.unftp_control_serve.proofs.SendLemmas
 pub use Rattle.unftp_control_serve.proofs.EndingLemmas
 pub use Rattle.unftp_control_serve.proofs.SoFarLemmas

@@ -49,6 +49,7 @@ pub use Rattle.unftp_control_answers.specs.Answers
 pub use Rattle.unftp_control_commands.specs.Facts
 pub use Rattle.unftp_control_answers.specs.ReplyTexts
 pub use Rattle.unftp_control_serve.specs.EventMeaning
+pub use Rattle.unftp_control_serve.specs.ClientLines
 pub use Rattle.unftp_control_serve.specs.Decoder
 pub use Rattle.unftp_control_serve.specs.Writing
 pub use Rattle.unftp_control_serve.specs.ErrorTexts
@@ -74,7 +75,6 @@ pub use Rattle.unftp_control_client.specs.Steps
 pub use Rattle.unftp_control_client.specs.ForwardingSteps
 pub use Rattle.unftp_control_log.specs.LogLine
 pub use Rattle.unftp_control_log.specs.Known
-pub use Rattle.unftp_control_proxy.specs.ClientLines
 pub use Rattle.unftp_control_proxy.specs.ProxyAnswers
 pub use Rattle.unftp_control_proxy.specs.ProxyCalls
 pub use Rattle.unftp_control_proxy.specs.Traffic

@@ -2,9 +2,11 @@
 #![tactic(auto, unfolding(unftp_control_defs::proofs::Computing::at_bytes))]
 
 ghost use Rattle.std.specs.Prelude.{◌≡◌, [], ◌∷◌, None, Some, codes, false, true};
-ghost use Rattle.unftp_control_address.specs.Extended.{extended_port, extended_port_text, fields, is_delimiter};
+ghost use Rattle.std.specs.declared.net.socket_addr.SocketAddr.{SocketAddr as RustAddress};
+ghost use Rattle.unftp_control_address.specs.Extended.{HasOtherProtocol, IsExtended, IsRefused, extended_port, extended_port_text, fields, is_delimiter};
 ghost use Rattle.unftp_control_address.specs.HostPorts.{first_host_port, host_port, host_port_text};
 ghost use Rattle.unftp_control_address.specs.Numbers.{octet, short};
+ghost use Rattle.unftp_control_address.specs.declared.extended.AddressError.TheVariants as AddressError;
 
 /// Numbers of 8 and of 16 bits.
 pub fn numbers_have_bounds()
@@ -52,6 +54,17 @@ pub fn values_have_three_fields()
     ensures more_after { fields (codes "|1|10.0.0.1|80||") ≡ None }
     ensures digit { fields (codes "010100800") ≡ None }
     ensures nothing { fields [] ≡ None }
+{}
+
+/// Why values of EPRT are refused: they name a protocol that is not known here, or have another
+/// form.
+pub fn values_are_refused()
+    ensures other_protocol { IsRefused (codes "|3|x|y|") AddressError.UnknownProtocol }
+    ensures ipv4 { ¬ HasOtherProtocol (codes "|1|10.0.0.1|80|") }
+    ensures ipv6 { ¬ HasOtherProtocol (codes "|2|::1|80|") }
+    ensures no_number { IsRefused (codes "|x|10.0.0.1|80|") AddressError.Malformed }
+    ensures port_too_great { IsRefused (codes "|1|10.0.0.1|65536|") AddressError.Malformed }
+    ensures not_ended { (address : RustAddress) → ¬ IsExtended (codes "|1|10.0.0.1|80") address }
 {}
 
 /// Delimiters.

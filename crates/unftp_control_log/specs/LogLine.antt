@@ -11,6 +11,7 @@ use Rattle.unftp_control_defs.specs.Rules.{row_of}
 use Rattle.unftp_control_defs.specs.Texts.{kind_reason, reading_text}
 use Rattle.unftp_control_defs.specs.Verbs.{upper, verb_of}
 use Rattle.unftp_control_write.specs.Lines.{spaced_part}
+pub use Rattle.unftp_control_serve.specs.ClientLines.{unless_too_long}
 
 -- a space, or a character of ASCII that prints (RFC 20)
 abbrev pub IsPrintable : ℕ → Type 0
@@ -102,10 +103,6 @@ visible_text (RefusedLine verb reason) =
 
 abbrev pub log_line : FtpEvent → Bytes → Bytes
 log_line event line = visible_text (visible event line)
-
--- what is there of a line when it is logged: nothing of one that is longer than the limit
-abbrev pub unless_too_long : Option ℕ → Bytes → Bytes
-unless_too_long limit line = if exceeds limit (length line) then [] else line
 
 -- the log line of a line under a limit
 abbrev pub logged : Option ℕ → Bytes → Bytes

@@ -17,17 +17,18 @@ use Rattle.unftp_control_defs.specs.ReplyReader.{FrontReply}
 use Rattle.unftp_control_defs.specs.Turns.{is_preliminary}
 use Rattle.unftp_control_defs.proofs.LineLemmas.{Lines-lines_of}
 use Rattle.unftp_control_read.specs.ReplyDecoding.{PendingReplies}
+use Rattle.unftp_control_serve.specs.ClientLines.{front_line, unless_too_long}
+use Rattle.unftp_control_serve.specs.Decoder.{line_in, without_line}
+use Rattle.unftp_control_serve.proofs.ClientLineLemmas.{cut_front}
 use Rattle.unftp_control_write.specs.Forwarding.{IsForwarded}
 use Rattle.unftp_control_client.specs.Dialogue.{after_line, after_reply, awaits_tls, first_owed, is_something, next_to}
 use Rattle.unftp_control_client.specs.ForwardingSteps.{IsGreeted}
 use Rattle.unftp_control_client.specs.declared.dialogue.Dialogue.{Dialogue}
 use Rattle.unftp_control_client.proofs.ClientStepLemmas.{answered-after_final, answered_after, sent-after_final}
 use Rattle.unftp_control_proxy.specs.ProxyAnswers.{IsReplyOf}
-use Rattle.unftp_control_proxy.specs.ClientLines.{after_front_line, front_line, head_or_none, line_in, shown_line, without_line}
-use Rattle.unftp_control_proxy.specs.ProxyCalls.{AnsweredBy, Fate, GivesAnswer, IsDecidable, IsWholeReply, PassesReply, ProxyState, ReplyBytes, SentAs, TakesReplyBytes, decided, greeting_owed, server_owes, waits}
+use Rattle.unftp_control_proxy.specs.ProxyCalls.{AnsweredBy, Fate, GivesAnswer, IsDecidable, IsLookedFor, IsWholeReply, PassesReply, ProxyState, ReplyBytes, SentAs, TakesReplyBytes, decided, greeting_owed, server_owes, waits}
 use Rattle.unftp_control_proxy.specs.Traffic.{IsSingle, IsTraffic, held_fate, nothing_passed, one_answer, one_line, one_reply}
 use Rattle.unftp_control_proxy.proofs.AnswerLemmas.{read_is_final}
-use Rattle.unftp_control_proxy.proofs.ClientLemmas.{BeginsWithLine, after_front_line-is, front_line-is}
 
 -- ---- pieces, and calls in which nothing passes
 
@@ -54,14 +55,13 @@ module _ (before later : ProxyState) (dialogue : later.dialogue ≡ before.dialo
     line_limit = line_limit;
   }
 
-pub found_only : (before later : ProxyState) (found : Bool) (held : ℕ)
-    → later ≡ record before { client = record before.client { found = found; held = held } }
+pub found_only : (before later : ProxyState) → IsLookedFor before later
     → IsTraffic before nothing_passed later
-found_only before later found held is = pieces before later
-    (ap (λ (p : ProxyState). p.dialogue) is) (ap (λ (p : ProxyState). p.answer) is)
-    (ap (λ (p : ProxyState). p.limits) is) (ap (λ (p : ProxyState). p.client.limit) is) [] []
-    (append-nil before.client.bytes ∙ sym (ap (λ (p : ProxyState). p.client.bytes) is))
-    (append-nil before.server.bytes ∙ sym (ap (λ (p : ProxyState). p.server.bytes) is))
+found_only before later is = pieces before later
+    (ap (λ (p : ProxyState). p.dialogue) is.same) (ap (λ (p : ProxyState). p.answer) is.same)
+    (ap (λ (p : ProxyState). p.limits) is.same) is.limit [] []
+    (append-nil before.client.bytes ∙ sym is.bytes)
+    (append-nil before.server.bytes ∙ sym (ap (λ (p : ProxyState). p.server.bytes) is.same))
 
 -- ---- a line that is decided
 
@@ -83,29 +83,9 @@ goes_on proxy e =
       full.0,
     )
 
-pub some_line : (line : Bytes) → IsLine line → line ≢ []
-some_line line is_line none =
-    omega (arith, ap length is_line.whole, ap length none, length-append is_line.body (LF ∷ []))
-
-cut_front : (bytes : Bytes) → IsLine (front_line bytes)
-    → bytes ≡ front_line bytes ++ after_front_line bytes
-cut_front bytes is_line = by_lines (lines_of bytes) refl is_line
-  where
-    by_lines : (lines : List Bytes) → lines_of bytes ≡ lines → IsLine (head_or_none lines)
-        → bytes ≡ front_line bytes ++ after_front_line bytes
-    by_lines [] e is_line = absurd (some_line [] is_line refl)
-    by_lines (line ∷ lines) e is_line =
-        let whole = (Lines-lines_of bytes).whole in
-        let cut : bytes ≡ line ++ (concat lines ++ incomplete_line bytes) = whole
-        ∙ ap (λ lines. concat lines ++ incomplete_line bytes) e
-        ∙ append_assoc line (concat lines) (incomplete_line bytes) in
-        let begins : BeginsWithLine bytes line (concat lines ++ incomplete_line bytes) =
-        record { is_line = is_line; whole = cut } in
-        cut ∙ (λ i. sym (front_line-is begins) i ++ sym (after_front_line-is begins) i)
-
 -- what is shown of a line that is not too long is the line
-shown_is : (limit : ℕ) (line : Bytes) → shown_line limit line ≢ [] → shown_line limit line ≡ line
-shown_is limit line some = by_test (exceeds (Some limit) (length line)) some
+shown_is : (limit : Option ℕ) (line : Bytes) → unless_too_long limit line ≢ [] → unless_too_long limit line ≡ line
+shown_is limit line some = by_test (exceeds limit (length line)) some
   where
     by_test : (long : Bool) → (if long then [] else line) ≢ [] → (if long then [] else line) ≡ line
     by_test true some = absurd (some refl)
@@ -114,7 +94,7 @@ shown_is limit line some = by_test (exceeds (Some limit) (length line)) some
 pub line_in-is : (proxy : ProxyState) → IsDecidable proxy → line_in proxy.client ≢ []
     → line_in proxy.client ≡ front_line proxy.client.bytes
 line_in-is proxy may some =
-    let shown : line_in proxy.client ≡ shown_line proxy.client.limit (front_line proxy.client.bytes)
+    let shown : line_in proxy.client ≡ unless_too_long proxy.client.limit (front_line proxy.client.bytes)
     = rw may.found refl in
     shown ∙ shown_is proxy.client.limit (front_line proxy.client.bytes) (subst (λ line. line ≢
     []) shown some)

@@ -1,5 +1,5 @@
 -- What was decided is what becomes of a line.
-use Rattle.std.proofs.Common.{◌≡◌, ◌≤◌, ℕ, Bool, true, false, List, [], ◌∷◌, ◌++◌, length, drop, take, Some, Ok, Err, OnOk, Result, refl, sym, ap, subst, ◌∙◌, append-nil, append_assoc, length-append, arith}
+use Rattle.std.proofs.Common.{◌≡◌, ◌≤◌, ℕ, Bool, true, false, List, [], ◌∷◌, ◌++◌, length, drop, take, Option, Some, Ok, Err, OnOk, Result, refl, sym, ap, subst, ◌∙◌, append-nil, append_assoc, length-append, arith}
 use Rattle.std.specs.Prelude.{◌-◌, ◌&&◌, if◌then◌else◌, nat_le, bytes_eq}
 use Rattle.std.specs.List.{AllByRecursion, concat, list_all}
 use Rattle.std.proofs.lemmas.Bool.{false≢true, le-leb}
@@ -14,14 +14,16 @@ use Rattle.unftp_control_defs.specs.FtpReply.{FtpReply}
 use Rattle.unftp_control_defs.specs.Lines.{IsLine, lines_of}
 use Rattle.unftp_control_defs.proofs.LackLemmas.{Lacks-append}
 use Rattle.unftp_control_defs.proofs.LineLemmas.{Lines-lines_of}
+use Rattle.unftp_control_serve.specs.ClientLines.{first_client_line, front_line}
+use Rattle.unftp_control_serve.specs.Decoder.{found_as, line_in}
+use Rattle.unftp_control_serve.specs.declared.decoder.ClientLine.{ClientLine}
+use Rattle.unftp_control_serve.specs.declared.decoder.ClientLine.TheVariants.{Complete, TooLong}
+use Rattle.unftp_control_serve.proofs.ClientLineLemmas.{HasFirst, first_line, is_long}
 use Rattle.unftp_control_write.specs.ClearLines.{has_clear_verb, is_clear, is_plain, is_plain_line}
 use Rattle.unftp_control_proxy.specs.ProxyAnswers.{is_answer}
-use Rattle.unftp_control_proxy.specs.ClientLines.{first_client_line, front_line, head_or_none, line_in}
-use Rattle.unftp_control_proxy.specs.ProxyCalls.{AnsweredBy, Fate, IsAnswerError, IsAppendedError, IsDecidable, MayBeSent, ProxyState, SentAs, decided, stops, waits}
+use Rattle.unftp_control_proxy.specs.ProxyCalls.{AnsweredBy, Fate, IsAnswerError, IsAppendedError, IsDecidable, IsLookedFor, MayBeSent, ProxyState, SentAs, decided, stops, waits}
 use Rattle.unftp_control_proxy.specs.Traffic.{DecidedLine, IsTraffic, client_lines, one_line, sent_for}
 use Rattle.unftp_control_proxy.specs.Filtering.{AreFiltered, Becomes, FilterLaw, IsLineStep, LineStep, Reply, Send, fate_by, filtered, long_line, refused_line, state_then, step_for, told_of}
-use Rattle.unftp_control_proxy.specs.declared.client.ClientLine.{ClientLine}
-use Rattle.unftp_control_proxy.specs.declared.client.ClientLine.TheVariants.{Complete, TooLong}
 use Rattle.unftp_control_proxy.specs.declared.driver.Step.{Step as RustStep}
 use Rattle.unftp_control_proxy.specs.declared.driver.Step.TheVariants as step
 use Rattle.unftp_control_proxy.specs.declared.errors.SendError.{SendError}
@@ -161,60 +163,31 @@ answer_becomes before later reply single is =
 
 -- ---- the line that a filter is asked of
 
-first_line : (limit : ℕ) (bytes : Bytes) (kind : ClientLine)
-    → first_client_line limit (lines_of bytes) ≡ Some kind
-    → IsLine (front_line bytes)
-    × ((if exceeds (Some limit) (length (front_line bytes)) then TooLong else Complete) ≡ kind)
-first_line limit bytes kind = by_lines (lines_of bytes) (Lines-lines_of bytes).each
-  where
-    by_lines : (lines : List Bytes) → AllByRecursion IsLine lines
-        → first_client_line limit lines ≡ Some kind → IsLine (head_or_none lines)
-        × ((if exceeds (Some limit) (length (head_or_none lines)) then TooLong else Complete)
-        ≡ kind)
-    by_lines [] each is = absurd (none-some _ is)
-    by_lines (line ∷ lines) each is = (each.0, same_Some _ kind is)
+module _ (before now : ProxyState) (looked : IsLookedFor before now) {kind : ClientLine}
+    {scanned : ℕ} (client : now.client ≡ found_as before.client (Some kind) scanned)
+    (first : first_client_line before.client.limit (lines_of before.client.bytes) ≡ Some kind) where
+  has_first : HasFirst before.client.limit before.client.bytes kind
+  has_first = first_line before.client.limit before.client.bytes kind first
 
-module _ (before now : ProxyState) (found : Bool) (held : ℕ)
-    (now_is : now ≡ record before { client = record before.client { found = found; held = held } })
-    (goes_on : waits before ≡ false) where
-  pub may_decide : (kind : ClientLine)
-      → first_client_line before.client.limit (lines_of before.client.bytes) ≡ Some kind
-      → found ≡ true → IsDecidable now
-  may_decide kind is there = rw now_is (record {
-    found = there;
-    is_line = (first_line before.client.limit before.client.bytes kind is).0;
-    goes_on = goes_on;
-  })
+  pub may_decide : waits before ≡ false → IsDecidable now
+  may_decide goes_on = record {
+    found = rw client refl;
+    is_line = subst (λ bytes. IsLine (front_line bytes)) (sym looked.bytes) has_first.is_line;
+    goes_on = ap waits looked.same ∙ goes_on;
+  }
 
   -- it is shown where it is not too long
-  pub short_line : (found ≡ true)
-      → first_client_line before.client.limit (lines_of before.client.bytes) ≡ Some Complete
-      → (line_in now.client ≡ front_line before.client.bytes)
+  pub short_line : kind ≡ Complete → (line_in now.client ≡ front_line before.client.bytes)
       × IsLine (line_in now.client)
-      × (exceeds (Some before.client.limit) (length (front_line before.client.bytes)) ≡ false)
-  short_line there is =
-      let first = first_line before.client.limit before.client.bytes Complete is in
-      let short = by_test (exceeds (Some before.client.limit) (length
-      (front_line before.client.bytes)))
-      first.1 in
-      let same : line_in now.client ≡ front_line before.client.bytes =
-      rw (now_is, there, short) refl in
-      (same, subst IsLine (sym same) first.0, short)
-    where
-      by_test : (long : Bool) → (if long then TooLong else Complete) ≡ Complete → long ≡ false
-      by_test true e = absurd (cc)
-      by_test false e = refl
+      × (exceeds before.client.limit (length (front_line before.client.bytes)) ≡ false)
+  short_line is =
+      let short = has_first.long ∙ ap is_long is in
+      let same : line_in now.client ≡ front_line before.client.bytes = rw (client, short) refl in
+      (same, subst IsLine (sym same) has_first.is_line, short)
 
-  pub long_first : first_client_line before.client.limit (lines_of before.client.bytes)
-      ≡ Some TooLong
-      → exceeds (Some before.client.limit) (length (front_line before.client.bytes)) ≡ true
-  long_first is = by_test (exceeds (Some before.client.limit) (length
-      (front_line before.client.bytes)))
-      (first_line before.client.limit before.client.bytes TooLong is).1
-    where
-      by_test : (long : Bool) → (if long then TooLong else Complete) ≡ TooLong → long ≡ true
-      by_test true e = refl
-      by_test false e = absurd (cc)
+  pub long_first : kind ≡ TooLong
+      → exceeds before.client.limit (length (front_line before.client.bytes)) ≡ true
+  long_first is = has_first.long ∙ ap is_long is
 
 -- A line is taken, and becomes what the law says.
 abbrev pub TookLine : {S : Type 0} → FilterLaw S → ProxyState → Bytes → S → ProxyState → Bytes → S
@@ -225,9 +198,8 @@ TookLine law before out s later out' s' = (fate : Fate)
     (record { line = front_line before.client.bytes; fate = fate } ∷ []) s'
     × (out' ≡ out ++ concat (sent_for fate))
 
-module _ {S : Type 0} (law : FilterLaw S) (before now later : ProxyState) (found : Bool) (held : ℕ)
-    (now_is : now ≡ record before { client = record before.client { found = found; held = held } })
-    (may : IsDecidable now) (out out' : Bytes) (s s' : S) where
+module _ {S : Type 0} (law : FilterLaw S) (before now later : ProxyState)
+    (looked : IsLookedFor before now) (may : IsDecidable now) (out out' : Bytes) (s s' : S) where
   abbrev line : Bytes
   line = front_line before.client.bytes
 
@@ -235,11 +207,10 @@ module _ {S : Type 0} (law : FilterLaw S) (before now later : ProxyState) (found
       → IsTraffic before (one_line line fate) later
   passed fate sent sent' becomes = subst (λ bytes. IsTraffic before (one_line
       (front_line bytes) fate) later)
-      (ap (λ (proxy : ProxyState). proxy.client.bytes) now_is)
-      (in_turn (found_only before now found held now_is)
+      looked.bytes (in_turn (found_only before now looked)
       (decides now later may fate becomes.single becomes.later_is))
 
-  pub took_long : exceeds (Some before.client.limit) (length line) ≡ true
+  pub took_long : exceeds before.client.limit (length line) ≡ true
       → Becomes long_line now [] [] later → s' ≡ s → out' ≡ out
       → TookLine law before out s later out' s'
   took_long long becomes state out_is = (
@@ -249,14 +220,14 @@ module _ {S : Type 0} (law : FilterLaw S) (before now later : ProxyState) (found
     out_is ∙ sym (append-nil out),
   )
 
-  pub took_short : exceeds (Some before.client.limit) (length line) ≡ false → (seen : Bytes)
+  pub took_short : exceeds before.client.limit (length line) ≡ false → (seen : Bytes)
       → seen ≡ line
       → Becomes (fate_by now.limits.sent (step_for (law.says s seen) seen)) now out out' later
       → s' ≡ law.next s seen → TookLine law before out s later out' s'
   took_short short seen seen_is becomes state =
       let fate = fate_by now.limits.sent (step_for (law.says s seen) seen) in
       let same : fate ≡ fate_by before.limits.sent (step_for (law.says s line) line) =
-      λ i. fate_by (now_is i).limits.sent (step_for (law.says s (seen_is i)) (seen_is i)) in (
+      λ i. fate_by (looked.same i).limits.sent (step_for (law.says s (seen_is i)) (seen_is i)) in (
         fate,
         passed fate out out' becomes,
         (rw short same, rw short (state ∙ ap (law.next s) seen_is)),
@@ -265,7 +236,7 @@ module _ {S : Type 0} (law : FilterLaw S) (before now later : ProxyState) (found
 
 -- ---- lines that are filtered one after the other
 
-module _ {S : Type 0} (law : FilterLaw S) (limit sent_limit : ℕ) where
+module _ {S : Type 0} (law : FilterLaw S) (limit : Option ℕ) (sent_limit : ℕ) where
   pub filtered_in_turn : (s s' s'' : S) (first later : List DecidedLine)
       → AreFiltered law limit sent_limit s first s' → AreFiltered law limit sent_limit s' later s''
       → AreFiltered law limit sent_limit s (first ++ later) s''

@@ -1,4 +1,3 @@
-pub mod ClientLemmas
 pub mod AnswerLemmas
 pub mod SendLemmas
 pub mod TrafficLemmas

@@ -4,13 +4,14 @@ use Rattle.unftp_control_defs.specs.Bytes.{Bytes, LF}
 use Rattle.unftp_control_defs.specs.FtpReply.{FtpReply, encoded}
 use Rattle.unftp_control_defs.specs.Lines.{IsLine, lines_of}
 use Rattle.unftp_control_defs.proofs.ReplyLemmas.{front_within}
-use Rattle.unftp_control_read.specs.ReplyDecoding.{pushed}
+use Rattle.unftp_control_read.specs.ReplyDecoding.{pushed as pushed_reply}
 use Rattle.unftp_control_read.specs.declared.errors.NextReplyError.{NextReplyError}
 use Rattle.unftp_control_client.specs.Dialogue.{next_to}
 use Rattle.unftp_control_client.specs.Steps.{AreExchanges}
 use Rattle.unftp_control_client.specs.declared.dialogue.To.TheVariants.{Greeting}
-use Rattle.unftp_control_proxy.specs.ClientLines.{first_client_line, front_line, with_piece}
-use Rattle.unftp_control_proxy.specs.ProxyCalls.{AnsweredBy, Fate, GivesAnswer, GivesNext, IsGiven, IsUnasked, PassesReply, ProxyState, ReplyBytes, SentAs, waits}
+use Rattle.unftp_control_serve.specs.ClientLines.{first_client_line, front_line}
+use Rattle.unftp_control_serve.specs.Decoder.{pushed}
+use Rattle.unftp_control_proxy.specs.ProxyCalls.{AnsweredBy, Fate, GivesAnswer, GivesNext, IsGiven, IsLookedFor, IsUnasked, PassesReply, ProxyState, ReplyBytes, SentAs, waits}
 use Rattle.unftp_control_proxy.specs.Traffic.{AreAsTheyCame, IsTraffic, client_lines, client_piece, client_replies, fates_in, fates_of, given_in, held_fate, joined, nothing_passed, one_answer, one_line, one_reply, passed_by_step, passed_in, sends_for, sent_by, server_piece}
 use Rattle.unftp_control_proxy.specs.Filtering.{AreFiltered, FilterLaw, IsAsked, filtered}
 use Rattle.unftp_control_proxy.specs.Relaying.{IsEnd, IsSettled, RelayState, Relays, RelaysInPart, after_written, new_relay}
@@ -88,10 +89,9 @@ module _ {S : Type 0} (law : FilterLaw S) where
   -- ---- a piece of either side
 
   module _ (x : RelayState S) (later : ProxyState) (piece : Bytes) where
-    pub relays_from_client : (held : ℕ)
-        → later ≡ record x.proxy { client = with_piece x.proxy.client piece held }
+    pub relays_from_client : later ≡ record x.proxy { client = pushed x.proxy.client piece }
         → Relays law piece [] x (record x { proxy = later })
-    relays_from_client held is = record {
+    relays_from_client is = record {
       traffic = client_piece piece;
       passed = pieces x.proxy later
           (ap (λ (p : ProxyState). p.dialogue) is) (ap (λ (p : ProxyState). p.answer) is)
@@ -106,7 +106,7 @@ module _ {S : Type 0} (law : FilterLaw S) where
       to_server = sym (append-nil x.to_server);
     }
 
-    pub relays_from_server : later ≡ record x.proxy { server = pushed x.proxy.server piece }
+    pub relays_from_server : later ≡ record x.proxy { server = pushed_reply x.proxy.server piece }
         → Relays law [] piece x (record x { proxy = later })
     relays_from_server is = record {
       traffic = server_piece piece;
@@ -207,13 +207,11 @@ module _ {S : Type 0} (law : FilterLaw S) where
 
   -- no line is taken
   pub relays_none : (x : RelayState S) (later : ProxyState) (s : S) (to_server : Bytes)
-      (found : Bool) (held : ℕ)
-      → later ≡ record x.proxy { client = record x.proxy.client { found = found; held = held } }
-      → to_server ≡ x.to_server → s ≡ x.filter
+      → IsLookedFor x.proxy later → to_server ≡ x.to_server → s ≡ x.filter
       → Relays law [] [] x (record x { proxy = later; filter = s; to_server = to_server })
-  relays_none x later s to_server found held is same state = record {
+  relays_none x later s to_server is same state = record {
     traffic = nothing_passed;
-    passed = found_only x.proxy later found held is;
+    passed = found_only x.proxy later is;
     client = refl;
     server = refl;
     filtered = state;
@@ -245,17 +243,17 @@ module _ {S : Type 0} (law : FilterLaw S) where
   module _ (limits : Limits) (s : S) (all : RelayState S) {from_client from_server : Bytes}
       (relays : Relays law from_client from_server (new_relay limits s) all) where
     lines_are : relays.traffic.lines
-        ≡ filtered law limits.line limits.sent s (client_lines relays.traffic.lines)
+        ≡ filtered law (Some limits.line) limits.sent s (client_lines relays.traffic.lines)
     lines_are =
-        decided_so law limits.line limits.sent s all.filter relays.traffic.lines relays.filtered
+        decided_so law (Some limits.line) limits.sent s all.filter relays.traffic.lines relays.filtered
 
     pub sent_by_law : lines_of all.to_server
-        ≡ sent_by (filtered law limits.line limits.sent s (client_lines relays.traffic.lines))
+        ≡ sent_by (filtered law (Some limits.line) limits.sent s (client_lines relays.traffic.lines))
     sent_by_law = ap lines_of relays.to_server ∙ sends_only relays.passed ∙ ap sent_by lines_are
 
     pub given_by_law : (all.to_client ≡ given_in relays.traffic.steps)
         × AreExchanges Greeting (client_replies relays.traffic.steps)
-        × (fates_of (filtered law limits.line limits.sent s (client_lines relays.traffic.lines))
+        × (fates_of (filtered law (Some limits.line) limits.sent s (client_lines relays.traffic.lines))
         ≡ fates_in relays.traffic.steps ++ held_fate all.proxy.answer)
     given_by_law = (
       relays.to_client ∙ relays.passed.to_client,
@@ -264,10 +262,6 @@ module _ {S : Type 0} (law : FilterLaw S) where
     )
 
 -- ---- what is left
-
-pub on_err : {T E : Type 0} (result : Result T E) {P : Type 0} → P → OnErr result P
-on_err (Ok done) holds = tt
-on_err (Err error) holds = holds
 
 -- a line that is taken is not left
 some_line : (line : Bytes) → IsLine line → 0 < length line
@@ -361,20 +355,20 @@ module _ (before later : ProxyState) (out out' : Bytes) where
   ends_unasked (Err error) gives code is = absurd (cc)
 
 -- the filter is asked, whatever was looked at
-pub asked_then : (before later : ProxyState) (found : Bool) (held : ℕ)
-    → later ≡ record before { client = record before.client { found = found; held = held } }
+pub asked_then : (before later : ProxyState) → IsLookedFor before later
     → IsAsked before → IsAsked later
-asked_then before later found held is asked =
-    subst IsAsked (sym is) (record { goes_on = asked.goes_on; line = asked.line })
+asked_then before later is asked = record {
+  goes_on = ap waits is.same ∙ asked.goes_on;
+  line = (λ i. first_client_line (is.limit i) (lines_of (is.bytes i))) ∙ asked.line;
+}
 
-pub settled : (before later : ProxyState) (found : Bool) (held : ℕ)
-    → later ≡ record before { client = record before.client { found = found; held = held } }
-    → IsGiven before
+pub settled : (before later : ProxyState) → IsLookedFor before later → IsGiven before
     → (waits before ≡ false
     → first_client_line before.client.limit (lines_of before.client.bytes) ≡ None)
     → IsSettled later
-settled before later found held is given none =
-    subst IsSettled (sym is) (record {
-      given = record { none_due = given.none_due; no_reply = given.no_reply };
-      no_line = none;
-    })
+settled before later is given none = record {
+  given = subst IsGiven (sym is.same)
+      (record { none_due = given.none_due; no_reply = given.no_reply });
+  no_line = λ goes_on. (λ i. first_client_line (is.limit i) (lines_of (is.bytes i)))
+      ∙ none (sym (ap waits is.same) ∙ goes_on);
+}

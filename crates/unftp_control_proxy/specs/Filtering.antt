@@ -1,5 +1,5 @@
 -- What a filter decides, line by line, and what follows from that alone.
-use Rattle.std.specs.Prelude.{◌≡◌, ℕ, false, if◌then◌else◌, nat_le, List, [], ◌∷◌, ◌++◌, Some, Ok, Err, length}
+use Rattle.std.specs.Prelude.{◌≡◌, ℕ, false, if◌then◌else◌, nat_le, List, [], ◌∷◌, ◌++◌, Option, Some, Ok, Err, length}
 use Rattle.std.specs.List.{concat}
 use Rattle.unftp_control_defs.specs.Bytes.{Bytes}
 use Rattle.unftp_control_defs.specs.Events.{exceeds}
@@ -9,12 +9,12 @@ use Rattle.unftp_control_defs.specs.FtpReply.{FtpReply}
 use Rattle.unftp_control_defs.specs.Lines.{lines_of}
 use Rattle.unftp_control_defs.specs.Outcome.{outcome}
 use Rattle.unftp_control_message.specs.ReplyMeaning.{reply_of}
+use Rattle.unftp_control_serve.specs.ClientLines.{first_client_line}
+use Rattle.unftp_control_serve.specs.declared.decoder.ClientLine.TheVariants.{Complete}
 use Rattle.unftp_control_write.specs.ClearLines.{is_clear}
 use Rattle.unftp_control_proxy.specs.ProxyAnswers.{answer_reply, is_answer, long_reply, refused_reply}
 use Rattle.unftp_control_proxy.specs.ProxyCalls.{AnsweredBy, Fate, ProxyState, SentAs, decided, waits}
-use Rattle.unftp_control_proxy.specs.ClientLines.{first_client_line}
 use Rattle.unftp_control_proxy.specs.Traffic.{DecidedLine, IsSingle, sent_for}
-use Rattle.unftp_control_proxy.specs.declared.client.ClientLine.TheVariants.{Complete}
 use Rattle.unftp_control_proxy.specs.declared.driver.Step.{Step as RustStep}
 use Rattle.unftp_control_proxy.specs.declared.driver.Step.TheVariants as step
 use Rattle.unftp_control_proxy.specs.declared.filter.Verdict.{Verdict}
@@ -86,14 +86,14 @@ fate_by limit (Reply reply) =
     if is_answer reply then AnsweredBy reply else refused_line
 
 -- By a law, under limits on the client's lines and on those that are sent.
-module _ {S : Type 0} (law : FilterLaw S) (limit sent : ℕ) where
+module _ {S : Type 0} (law : FilterLaw S) (limit : Option ℕ) (sent : ℕ) where
   -- what becomes of a line, and the state that follows
   abbrev pub fate_of : S → Bytes → Fate
-  fate_of s line = if exceeds (Some limit) (length line) then long_line
+  fate_of s line = if exceeds limit (length line) then long_line
       else fate_by sent (step_for (law.says s line) line)
 
   abbrev pub state_then : S → Bytes → S
-  state_then s line = if exceeds (Some limit) (length line) then s else law.next s line
+  state_then s line = if exceeds limit (length line) then s else law.next s line
 
   -- and of lines, one after the other
   abbrev pub filtered : S → List Bytes → List DecidedLine

@@ -1,5 +1,4 @@
 -- To be read in this order.
-pub mod ClientLines
 pub mod ProxyAnswers
 pub mod ProxyCalls
 pub mod Traffic

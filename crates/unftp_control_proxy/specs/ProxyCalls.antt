@@ -9,10 +9,12 @@ use Rattle.unftp_control_defs.specs.Lines.{IsLine}
 use Rattle.unftp_control_defs.specs.Outcome.{outcome}
 use Rattle.unftp_control_defs.specs.ReplyReader.{FrontReply}
 use Rattle.unftp_control_defs.specs.Room.{LacksRoom}
-use Rattle.unftp_control_read.specs.ReplyDecoding.{BeginsWith, FindsFirst, PendingReplies, no_bytes}
+use Rattle.unftp_control_read.specs.ReplyDecoding.{BeginsWith, FindsFirst, PendingReplies, no_bytes as no_reply_bytes}
 use Rattle.unftp_control_read.specs.declared.decoder.FirstReply.{FirstReply}
 use Rattle.unftp_control_read.specs.declared.errors.NextReplyError.{NextReplyError}
 use Rattle.unftp_control_read.specs.declared.errors.NextReplyError.TheVariants as next
+use Rattle.unftp_control_serve.specs.ClientLines.{front_line}
+use Rattle.unftp_control_serve.specs.Decoder.{Pending, no_bytes, without_line}
 use Rattle.unftp_control_write.specs.ClearLines.{is_clear}
 use Rattle.unftp_control_write.specs.Forwarding.{IsForwardError, LacksRoomFor}
 use Rattle.unftp_control_write.specs.declared.forwarding.ForwardError.{ForwardError}
@@ -20,7 +22,6 @@ use Rattle.unftp_control_write.specs.declared.forwarding.ForwardError.TheVariant
 use Rattle.unftp_control_client.specs.Dialogue.{after_line, after_reply, at_start, awaits_tls, commands_owed, owes_reply}
 use Rattle.unftp_control_client.specs.declared.dialogue.Dialogue.{Dialogue}
 use Rattle.unftp_control_proxy.specs.ProxyAnswers.{IsNoAnswer, IsReplyOf, answer_reply, is_answer}
-use Rattle.unftp_control_proxy.specs.ClientLines.{Client, front_line, no_client_bytes, without_line}
 use Rattle.unftp_control_proxy.specs.declared.answer.Answer.{Answer}
 use Rattle.unftp_control_proxy.specs.declared.proxy.Limits.{Limits}
 use Rattle.unftp_control_proxy.specs.declared.proxy.NextReply.{NextReply}
@@ -32,7 +33,7 @@ use Rattle.unftp_control_proxy.specs.declared.errors.SendError.TheVariants as se
 
 pub record ProxyState : Type 0 where
   -- what came from both sides and was not taken
-  pub client : Client
+  pub client : Pending
   pub server : PendingReplies
   -- which reply is to which of the lines that were sent to the server
   pub dialogue : Dialogue
@@ -40,7 +41,7 @@ pub record ProxyState : Type 0 where
   pub answer : Option FtpReply
   pub limits : Limits
 
-abbrev pub proxy_state : Client → PendingReplies → Dialogue → Option Answer → Limits → ProxyState
+abbrev pub proxy_state : Pending → PendingReplies → Dialogue → Option Answer → Limits → ProxyState
 proxy_state client server dialogue answer limits = record {
   client = client;
   server = server;
@@ -52,8 +53,8 @@ proxy_state client server dialogue answer limits = record {
 -- nothing was said: the client is owed the server's greeting
 abbrev pub new_proxy : Limits → ProxyState
 new_proxy limits = record {
-  client = no_client_bytes limits.line;
-  server = no_bytes (Some limits.reply);
+  client = no_bytes (Some limits.line);
+  server = no_reply_bytes (Some limits.reply);
   dialogue = at_start;
   answer = None;
   limits = limits;
@@ -73,6 +74,16 @@ server_owes dialogue = commands_owed dialogue + greeting_owed dialogue.answered
 abbrev pub waits : ProxyState → Bool
 waits proxy = nat_le proxy.limits.waiting (server_owes proxy.dialogue)
     || (is_some proxy.answer || awaits_tls proxy.dialogue)
+
+-- The client's first line may have been looked for, and nothing else has changed. No byte is
+-- scanned twice.
+pub record IsLookedFor (before later : ProxyState) : Type 0 where
+  pub same : later ≡ record before { client = later.client }
+  pub bytes : later.client.bytes ≡ before.client.bytes
+  pub limit : later.client.limit ≡ before.client.limit
+  pub scanned : later.client.scanned + later.client.unscanned
+      ≡ before.client.scanned + before.client.unscanned
+  pub buffered : later.client.buffered ≤ before.client.buffered
 
 -- the client's first line was found, and may be taken
 pub record IsDecidable (proxy : ProxyState) : Type 0 where

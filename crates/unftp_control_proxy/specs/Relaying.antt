@@ -1,12 +1,12 @@
 -- What a relay does: it takes pieces from both sides, lets its filter decide each line, gives each
 -- reply as it came, and holds what each side is to be sent until that is written.
-use Rattle.std.specs.Prelude.{◌≡◌, ◌⊎◌, ℕ, false, [], ◌++◌, None, Err}
+use Rattle.std.specs.Prelude.{◌≡◌, ◌⊎◌, ℕ, ◌+◌, ◌<◌, false, [], ◌++◌, None, Err, length}
 use Rattle.std.specs.Global.{Vec}
 use Rattle.unftp_control_defs.specs.Bytes.{Bytes}
 use Rattle.unftp_control_defs.specs.Lines.{lines_of}
 use Rattle.unftp_control_read.specs.ReplyDecoding.{FindsFirst}
 use Rattle.unftp_control_read.specs.declared.errors.NextReplyError.TheVariants as next
-use Rattle.unftp_control_proxy.specs.ClientLines.{first_client_line}
+use Rattle.unftp_control_serve.specs.ClientLines.{first_client_line}
 use Rattle.unftp_control_proxy.specs.Filtering.{AreFiltered, FilterLaw, IsAsked}
 use Rattle.unftp_control_proxy.specs.ProxyCalls.{BeginsTls, IsGiven, IsNextError, IsUnasked, ProxyState, new_proxy, waits}
 use Rattle.unftp_control_proxy.specs.Traffic.{AreAsTheyCame, IsTraffic, Traffic, passed_in}
@@ -67,6 +67,15 @@ abbrev pub RelaysInPart : {S : Type 0} → FilterLaw S → Bytes → Bytes → R
 RelaysInPart {S} law from_client from_server before after = (s : S)
     × (Relays law from_client from_server before (record after { filter = s })
     ⊎ (record after { filter = s } ≡ before))
+
+-- why a piece is not taken: the buffer would hold more bytes than it ever did
+abbrev pub LacksClientRoom : {S : Type 0} → RelayState S → Bytes → Type 0
+LacksClientRoom state piece = (¬ (piece ≡ []))
+    × (state.proxy.client.held < state.proxy.client.buffered + length piece)
+
+abbrev pub LacksServerRoom : {S : Type 0} → RelayState S → Bytes → Type 0
+LacksServerRoom state piece = (¬ (piece ≡ []))
+    × (state.proxy.server.held < state.proxy.server.buffered + length piece)
 
 -- Why a call fails, other than at the piece: there is no room for what the client is given next; or
 -- the filter is asked, or there is no room for its line.

@@ -8,13 +8,13 @@ ghost use Rattle.unftp_control_defs.specs.Room.{LacksRoom};
 ghost use Rattle.unftp_control_codecs.specs.Memory.{PartsTo};
 ghost use Rattle.unftp_control_write.specs.Forwarding.{LacksRoomFor};
 ghost use Rattle.unftp_control_proxy.specs.ProxyAnswers.{answer_reply, is_answer};
-ghost use Rattle.unftp_control_proxy.specs.ClientLines.{first_client_line, front_line, line_in};
-ghost use Rattle.unftp_control_proxy.specs.ProxyCalls.{AnsweredBy, Fate, IsDecidable, IsFull, stops, waits};
+ghost use Rattle.unftp_control_serve.specs.ClientLines.{first_client_line, front_line};
+ghost use Rattle.unftp_control_serve.specs.Decoder.{kept_length, line_in};
+ghost use Rattle.unftp_control_proxy.specs.ProxyCalls.{AnsweredBy, Fate, IsDecidable, IsFull, stops, waits, IsLookedFor};
 ghost use Rattle.unftp_control_proxy.specs.Traffic.{IsTraffic, one_line, sent_for};
 ghost use Rattle.unftp_control_proxy.specs.Filtering.{AreFiltered, Becomes, IsAsked, IsLineStep, LineStep, Reply as ReplyStep, Send, decision_of, fate_by, forward_or_refuse, step_for, told_of};
 
 use crate::answer::Answer;
-use crate::client::ClientLine;
 use crate::errors::SendError;
 use crate::filter::{Filter, Verdict};
 use crate::proxy::Proxy;
@@ -22,6 +22,7 @@ use std::alloc::{AllocError, Global};
 use unftp_control_codecs::line_parser::parts;
 use unftp_control_message::parts::Parts;
 use unftp_control_message::reply::error::ParseErrorKind;
+use unftp_control_serve::ClientLine;
 use unftp_control_write::forward_parts;
 
 /// What is to be done with a line.
@@ -242,15 +243,11 @@ pub fn filter_line<F: Filter>(
         → first_client_line proxy.old.client.limit (lines_of proxy.old.client.bytes) ≡ None }
     ensures none { result ≡ Ok false → F.state filter.new ≡ F.state filter.old }
     ensures fails { OnErr result (IsAsked proxy.old) }
-    ensures not_taken { result ≢ Ok true → (proxy.new ≡ record proxy.old {
-      client = record proxy.old.client {
-        found = proxy.new.client.found;
-        held = proxy.new.client.held;
-      };
-    }) × (to_server.new.items ≡ to_server.old.items) }
-    ensures held { proxy.new.client.held ≤ proxy.old.client.held }
-    ensures bounded { result ≡ Ok false → waits proxy.old ≡ false
-        → proxy.new.client.held < proxy.old.client.limit }
+    ensures not_taken { result ≢ Ok true → IsLookedFor proxy.old proxy.new
+        × (to_server.new.items ≡ to_server.old.items) }
+    ensures buffered { proxy.new.client.buffered ≤ proxy.old.client.buffered }
+    ensures bounded { result ≡ Ok false → waits proxy.old ≡ false → proxy.new.client.buffered
+        ≡ kept_length proxy.old.client.limit proxy.old.client.bytes }
 {
     if proxy.waits_for_server() {
         return Ok(false);

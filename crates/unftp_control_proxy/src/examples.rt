@@ -5,6 +5,7 @@ ghost use Rattle.std.specs.Global.{Vec};
 ghost use Rattle.std.specs.Prelude.{◌≡◌, ◌∷◌, ◌++◌, ℕ, List, [], Some, None, codes, false, true};
 ghost use Rattle.unftp_control_defs.specs.Bytes.{Bytes};
 ghost use Rattle.unftp_control_defs.specs.FtpReply.{CodeAndMsg, MultiLine, Nothing, encoded};
+ghost use Rattle.unftp_control_defs.specs.Lines.{lines_of};
 ghost use Rattle.unftp_control_message.specs.declared.reply.error.parse_error.ParseErrorKind.{ParseErrorKind};
 ghost use Rattle.unftp_control_message.specs.declared.reply.error.parse_error.ParseErrorKind.TheVariants.{InvalidCommand};
 ghost use Rattle.unftp_control_read.specs.ReplyDecoding.{pending_replies};
@@ -12,7 +13,9 @@ ghost use Rattle.unftp_control_write.specs.ClearLines.{is_clear};
 ghost use Rattle.unftp_control_client.specs.Dialogue.{after_line, after_reply, at_start, awaits_tls, owes_reply};
 ghost use Rattle.unftp_control_client.specs.declared.dialogue.To.TheVariants.{Command, Greeting};
 ghost use Rattle.unftp_control_proxy.specs.ProxyAnswers.{IsFinalReply, is_answer, is_final, long_reply, refused_reply};
-ghost use Rattle.unftp_control_proxy.specs.ClientLines.{after_front_line, front_line, shown_line};
+ghost use Rattle.unftp_control_serve.specs.ClientLines.{after_front_line, first_client_line, front_line, unless_too_long};
+ghost use Rattle.unftp_control_serve.specs.Decoder.{found_as, line_in, no_bytes, pushed, without_line};
+ghost use Rattle.unftp_control_serve.specs.declared.decoder.ClientLine.TheVariants as ClientLine;
 ghost use Rattle.unftp_control_proxy.specs.ProxyCalls.{AnsweredBy, Fate, GivesNext, GivesOther, IsDecidable, IsForwardingError, IsGiven, IsReplaceError, IsUnclearError, IsUnsent, MayBeSent, ProxyState, ReplyBytes, SentAs, decided, is_due, new_proxy, server_owes, stops, waits};
 ghost use Rattle.unftp_control_proxy.specs.Traffic.{ChangesNothing, GivesOwn, GivesReply, SendsLine, client_replies, fates_in, given_in, one_line, one_reply};
 ghost use Rattle.unftp_control_proxy.specs.Filtering.{AsItIs, Becomes, Forward, Instead, IsAsked, Reply, Send, fate_by, long_line, refused_line, step_for, told_of};
@@ -176,8 +179,24 @@ pub fn traffic_changes_nothing()
 pub fn lines_are_first()
     ensures line { front_line (codes "NOOP\r\nQU") ≡ codes "NOOP\r\n" }
     ensures rest { after_front_line (codes "NOOP\r\nQU") ≡ codes "QU" }
-    ensures shown { shown_line 6 (codes "NOOP\r\n") ≡ codes "NOOP\r\n" }
-    ensures too_long { shown_line 5 (codes "NOOP\r\n") ≡ [] }
+    ensures shown { unless_too_long (Some 6) (codes "NOOP\r\n") ≡ codes "NOOP\r\n" }
+    ensures too_long { unless_too_long (Some 5) (codes "NOOP\r\n") ≡ [] }
+{}
+
+/// What the first line is, what is held once it was looked for, and what is left once it is taken.
+pub fn lines_are_found()
+    ensures complete { first_client_line (Some 6) (lines_of (codes "NOOP\r\nQU"))
+        ≡ Some ClientLine.Complete }
+    ensures too_long { first_client_line (Some 5) (lines_of (codes "NOOP\r\nQU"))
+        ≡ Some ClientLine.TooLong }
+    ensures none { first_client_line (Some 6) (lines_of (codes "NOOP\r")) ≡ None }
+    ensures kept { (found_as (pushed (no_bytes (Some 6)) (codes "NOOP\r")) None 5).buffered ≡ 5 }
+    ensures dropped { (found_as (pushed (no_bytes (Some 5)) (codes "NOOP\r")) None 5).buffered ≡ 0 }
+    ensures found { line_in (found_as (pushed (no_bytes None) (codes "NOOP\r\nQU"))
+        (Some ClientLine.Complete) 6) ≡ codes "NOOP\r\n" }
+    ensures not_found { line_in (pushed (no_bytes None) (codes "NOOP\r\nQU")) ≡ [] }
+    ensures taken { (without_line (found_as (pushed (no_bytes None) (codes "NOOP\r\nQU"))
+        (Some ClientLine.Complete) 6)).bytes ≡ codes "QU" }
 {}
 
 /// What is to be done with a line of which something was decided.

@@ -1,5 +1,5 @@
 //! What holds of all that passes a proxy, each the contract of a function that does nothing.
-ghost use Rattle.std.specs.Prelude.{◌≡◌, ◌<◌, ◌≤◌, ◌++◌, ℕ, suc, List, None, IfSome, length, max};
+ghost use Rattle.std.specs.Prelude.{◌≡◌, ◌<◌, ◌≤◌, ◌++◌, ℕ, suc, List, None, IfSome, length, max, Option};
 ghost use Rattle.std.specs.List.{AllByRecursion, concat, filter};
 ghost use Rattle.unftp_control_defs.specs.Bytes.{Bytes};
 ghost use Rattle.unftp_control_defs.specs.Events.{events};
@@ -98,16 +98,16 @@ pub fn traffic_is_joined()
 /// Where a filter decides the lines, by `filter_line`: what becomes of them, and so what the server
 /// is sent, follows from the client's lines and the filter's law alone, whenever anything came.
 pub fn filtered_by_its_law<F: Filter>()
-    ensures lines { (limit sent_limit : ℕ) (s s' : F.State) (lines : List DecidedLine)
+    ensures lines { (limit : Option ℕ) (sent_limit : ℕ) (s s' : F.State) (lines : List DecidedLine)
         → AreFiltered F.law limit sent_limit s lines s'
         → lines ≡ filtered F.law limit sent_limit s (client_lines lines) }
     ensures sent { (limits : RustLimits) (traffic : Traffic) (later : ProxyState) (s s' : F.State)
         → IsTraffic (new_proxy limits) traffic later
-        → AreFiltered F.law limits.line limits.sent s traffic.lines s'
+        → AreFiltered F.law (Some limits.line) limits.sent s traffic.lines s'
         → lines_of traffic.to_server
-        ≡ sent_by (filtered F.law limits.line limits.sent s (client_lines traffic.lines)) }
+        ≡ sent_by (filtered F.law (Some limits.line) limits.sent s (client_lines traffic.lines)) }
     // Lines that it decides one after the other are decided so in all.
-    ensures in_turn { (limit sent_limit : ℕ) (s s' s'' : F.State) (first later : List DecidedLine)
+    ensures in_turn { (limit : Option ℕ) (sent_limit : ℕ) (s s' s'' : F.State) (first later : List DecidedLine)
         → AreFiltered F.law limit sent_limit s first s'
         → AreFiltered F.law limit sent_limit s' later s''
         → AreFiltered F.law limit sent_limit s (first ++ later) s'' }
@@ -120,7 +120,7 @@ pub fn relayed_by_its_law<F: Filter>()
     ensures sent { (limits : RustLimits) (from_client from_server : Bytes) (s : F.State)
         (all : RelayState F.State)
         (relays : Relays F.law from_client from_server (new_relay limits s) all)
-        → lines_of all.to_server ≡ sent_by (filtered F.law limits.line limits.sent s
+        → lines_of all.to_server ≡ sent_by (filtered F.law (Some limits.line) limits.sent s
         (client_lines relays.traffic.lines)) }
     // What the client was given and is still to be given are the exchanges of these lines.
     ensures given { (limits : RustLimits) (from_client from_server : Bytes) (s : F.State)
@@ -128,7 +128,7 @@ pub fn relayed_by_its_law<F: Filter>()
         (relays : Relays F.law from_client from_server (new_relay limits s) all)
         → (all.to_client ≡ given_in relays.traffic.steps)
         × AreExchanges Greeting (client_replies relays.traffic.steps)
-        × (fates_of (filtered F.law limits.line limits.sent s (client_lines relays.traffic.lines))
+        × (fates_of (filtered F.law (Some limits.line) limits.sent s (client_lines relays.traffic.lines))
         ≡ fates_in relays.traffic.steps ++ held_fate all.proxy.answer) }
     ensures lines { (limits : RustLimits) (from_client from_server : Bytes) (s : F.State)
         (all : RelayState F.State)

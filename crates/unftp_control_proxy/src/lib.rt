@@ -5,7 +5,6 @@
 #![tactic(auto)]
 
 mod answer;
-mod client;
 mod driver;
 mod errors;
 pub mod examples;
@@ -17,9 +16,9 @@ mod sending;
 pub mod steps;
 
 pub use crate::answer::Answer;
-pub use crate::client::ClientLine;
 pub use crate::driver::filter_line;
 pub use crate::errors::{ReplaceError, SendError};
 pub use crate::filter::{Filter, Verdict};
 pub use crate::proxy::{Limits, NextReply, Proxy};
 pub use crate::relay::{End, Relay};
+pub use unftp_control_serve::ClientLine;

@@ -3,21 +3,22 @@ ghost use Rattle.std.specs.Prelude.{◌≡◌, ◌≢◌, ◌↔◌, ◌≤◌, 
 ghost use Rattle.unftp_control_defs.specs.Bytes.{Bytes};
 ghost use Rattle.unftp_control_defs.specs.Forwarded.{forwarded_line};
 ghost use Rattle.unftp_control_defs.specs.Lines.{IsLine, lines_of};
-ghost use Rattle.unftp_control_read.specs.ReplyDecoding.{FindsFirst, pushed};
+ghost use Rattle.unftp_control_read.specs.ReplyDecoding.{FindsFirst, pushed as pushed_reply};
 ghost use Rattle.unftp_control_write.specs.Forwarding.{IsForwarded};
 ghost use Rattle.unftp_control_client.specs.Dialogue.{after_reply, owes_reply};
 ghost use Rattle.unftp_control_proxy.specs.ProxyAnswers.{IsReplyOf, answer_reply, is_answer};
-ghost use Rattle.unftp_control_proxy.specs.ClientLines.{first_client_line, line_in, with_piece, without_line};
-ghost use Rattle.unftp_control_proxy.specs.ProxyCalls.{AnsweredBy, BeginsTls, GivesNext, GivesOther, IsAnswerError, IsAppendedError, IsCheckError, IsDecidable, IsForwardingError, IsFull, IsNextError, IsReplaceError, IsSendError, IsUnclearError, MayBeSent, SentAs, decided, is_due, new_proxy, send_error, server_owes, waits};
+ghost use Rattle.unftp_control_serve.specs.ClientLines.{first_client_line};
+ghost use Rattle.unftp_control_serve.specs.Decoder.{found_as, kept_bytes, line_in, pushed, without_line};
+ghost use Rattle.unftp_control_proxy.specs.ProxyCalls.{AnsweredBy, BeginsTls, GivesNext, GivesOther, IsAnswerError, IsAppendedError, IsCheckError, IsDecidable, IsForwardingError, IsFull, IsNextError, IsReplaceError, IsSendError, IsUnclearError, MayBeSent, SentAs, decided, is_due, new_proxy, send_error, server_owes, waits, IsLookedFor};
 
 use crate::answer::Answer;
-use crate::client::{ClientLine, ClientLines};
 use crate::errors::{ReplaceError, SendError};
 use crate::sending::{append, check};
 use std::alloc::{AllocError, Global};
 use std::marker::Model;
 use std::mem;
 use unftp_control_client::Dialogue;
+use unftp_control_serve::{ClientLine, EventDecoder};
 use unftp_control_read::{FirstReply, FoundReply, NextReplyError, ReplyDecoder, find_reply};
 use unftp_control_write::{ForwardError, forward, is_line};
 
@@ -63,7 +64,7 @@ pub enum NextReply {
 // An answer that is held is one final reply.
 #[derive(Drop)]
 pub struct Proxy {
-    client: ClientLines,
+    client: EventDecoder,
     server: ReplyDecoder,
     dialogue: Dialogue,
     answer: Option<Answer>,
@@ -91,7 +92,7 @@ impl Proxy {
         ensures { result ≡ new_proxy limits }
     {
         Proxy {
-            client: ClientLines::new(alloc, limits.line),
+            client: EventDecoder::with_limit(alloc, limits.line),
             server: ReplyDecoder::with_limit(alloc, limits.reply),
             dialogue: Dialogue::new(),
             answer: None,
@@ -99,15 +100,15 @@ impl Proxy {
         }
     }
 
-    /// A piece of what the client sent. When out of memory, nothing changes; it never is for an
-    /// empty piece.
+    /// A piece of what the client sent. When out of memory, nothing changes; it only is where the
+    /// buffer would hold more bytes than it ever did, and never for an empty piece.
     pub fn from_client(&mut self, piece: &[u8]) -> Result<(), AllocError>
-        ensures ok { OnOk result (self.new ≡ record self.old {
-          client = with_piece self.old.client piece.now self.new.client.held;
-        }) }
-        ensures held { self.new.client.held ≤ self.old.client.held + length piece.now }
+        ensures ok { OnOk result
+            (self.new ≡ record self.old { client = pushed self.old.client piece.now }) }
         ensures err { OnErr result (self.new ≡ self.old) }
         ensures some { OnErr result (¬ (piece.now ≡ [])) }
+        ensures memory { OnErr result
+            (self.old.client.held < self.old.client.buffered + length piece.now) }
     {
         self.client.push(piece)
     }
@@ -116,7 +117,7 @@ impl Proxy {
     /// buffer would hold more bytes than it ever did, and never for an empty piece.
     pub fn from_server(&mut self, piece: &[u8]) -> Result<(), AllocError>
         ensures ok { OnOk result
-            (self.new ≡ record self.old { server = pushed self.old.server piece.now }) }
+            (self.new ≡ record self.old { server = pushed_reply self.old.server piece.now }) }
         ensures err { OnErr result (self.new ≡ self.old) }
         ensures some { OnErr result (¬ (piece.now ≡ [])) }
         ensures memory { OnErr result
@@ -151,20 +152,18 @@ impl Proxy {
 
     /// What the client's next line is; or `None` where none is complete. `line` then returns its
     /// bytes, until it is decided. It may be decided only where the proxy doesn't wait for the
-    /// server. It takes no memory.
+    /// server. It takes no memory, and no byte is scanned for a line feed twice.
     ///
     /// Where it returns `None`, fewer bytes of the client are held than a line may have: so where
     /// it does before each piece, never more than the limit and one piece.
     pub fn next_line(&mut self) -> Option<ClientLine>
         ensures next { result
             ≡ first_client_line self.old.client.limit (lines_of self.old.client.bytes) }
-        ensures same { self.new ≡ record self.old {
-          client = record self.old.client { found = is_some result; held = self.new.client.held };
-        } }
-        ensures held { self.new.client.held ≤ self.old.client.held }
-        ensures bounded { result ≡ None → self.new.client.held < self.old.client.limit }
+        ensures client {
+            self.new.client ≡ found_as self.old.client result self.new.client.scanned }
+        ensures same { IsLookedFor self.old self.new }
     {
-        self.client.next()
+        self.client.find_line()
     }
 
     /// The line that `next_line` found, as it came; empty where it is too long, and where none was
@@ -172,7 +171,7 @@ impl Proxy {
     pub fn line(&self) -> &[u8]
         ensures { result.now ≡ line_in self.now.client }
     {
-        self.client.line()
+        self.client.found_line()
     }
 
     /// Whether the line that was found may be decided now.
@@ -206,7 +205,7 @@ impl Proxy {
         if !self.is_decidable() {
             return Err(SendError::NoLine);
         }
-        let line = self.client.line();
+        let line = self.client.found_line();
         if line.is_empty() {
             return Err(SendError::NotALine);
         }
@@ -234,7 +233,7 @@ impl Proxy {
         ensures err { OnErr result (self.new ≡ self.old) }
         ensures out_err { OnErr result (to_server.new.items ≡ to_server.old.items) }
     {
-        let line = self.client.line();
+        let line = self.client.found_line();
         self.check(line)?;
         let length = append(line, to_server)?;
         self.note_line(length, to_server)
@@ -276,7 +275,7 @@ impl Proxy {
         if !self.is_decidable() {
             return Err(SendError::NoLine);
         }
-        let line = self.client.line();
+        let line = self.client.found_line();
         if !is_line(line) {
             return Err(SendError::NotALine);
         }
@@ -340,7 +339,7 @@ impl Proxy {
             to_server.truncate(length);
             return Err(SendError::TooManyCommands);
         }
-        self.client.take();
+        self.client.take_line();
         Ok(())
     }
 
@@ -361,7 +360,7 @@ impl Proxy {
         }
         answer.check()?;
         self.hold(answer);
-        self.client.take();
+        self.client.take_line();
         Ok(())
     }
 
@@ -509,7 +508,7 @@ impl Proxy {
     /// What is kept of what the client sent and was not decided: after an AUTH to which the server
     /// agreed, what is for the server as it is (RFC 4217, section 4).
     pub fn client_pending(&self) -> &[u8]
-        ensures { (dropped : Bytes) × (self.now.client.bytes ≡ dropped ++ result.now) }
+        ensures { result.now ≡ kept_bytes self.now.client }
     {
         self.client.pending()
     }

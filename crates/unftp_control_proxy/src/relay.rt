@@ -1,7 +1,8 @@
 //! A proxy with its filter.
 ghost use Rattle.std.specs.Prelude.{◌≡◌, ◌⊎◌, ◌<◌, ◌+◌, ◌≤◌, [], None, Ok, false, IfOk, IfSome, OnErr, OnOk, length};
+ghost use Rattle.unftp_control_serve.specs.Decoder.{kept_length};
 ghost use Rattle.unftp_control_proxy.specs.ProxyCalls.{IsGiven, waits};
-ghost use Rattle.unftp_control_proxy.specs.Relaying.{FailsSo, IsEnd, IsSettled, LacksRoomToGive, Relays, RelaysInPart, new_relay, relay_state_of};
+ghost use Rattle.unftp_control_proxy.specs.Relaying.{FailsSo, IsEnd, IsSettled, LacksClientRoom, LacksRoomToGive, LacksServerRoom, Relays, RelaysInPart, new_relay, relay_state_of};
 
 use crate::driver::filter_line;
 use crate::filter::Filter;
@@ -62,13 +63,16 @@ impl<F: Filter + Drop> Relay<F> {
             (relay_state_of F.state self.old) (relay_state_of F.state self.new)) }
         ensures ended { IfOk result (λ ended. IfSome ended (λ end. IsEnd self.new.proxy end)) }
         ensures settled { result ≡ Ok None → IsSettled self.new.proxy }
-        ensures held { self.new.proxy.client.held ≤ self.old.proxy.client.held + length piece.now }
+        ensures held { self.new.proxy.client.buffered
+            ≤ self.old.proxy.client.buffered + length piece.now }
         ensures less { result ≡ Ok None → waits self.new.proxy ≡ false
-            → self.new.proxy.client.held < self.new.proxy.client.limit }
+            → self.new.proxy.client.buffered
+            ≡ kept_length self.new.proxy.client.limit self.new.proxy.client.bytes }
         ensures err { OnErr result (RelaysInPart F.law piece.now []
             (relay_state_of F.state self.old) (relay_state_of F.state self.new)) }
         ensures fails { OnErr result
-            ((¬ (piece.now ≡ [])) ⊎ FailsSo (relay_state_of F.state self.new)) }
+            (LacksClientRoom (relay_state_of F.state self.old) piece.now
+            ⊎ FailsSo (relay_state_of F.state self.new)) }
     {
         self.proxy.from_client(piece)?;
         self.pass_all(alloc)
@@ -80,13 +84,15 @@ impl<F: Filter + Drop> Relay<F> {
             (relay_state_of F.state self.old) (relay_state_of F.state self.new)) }
         ensures ended { IfOk result (λ ended. IfSome ended (λ end. IsEnd self.new.proxy end)) }
         ensures settled { result ≡ Ok None → IsSettled self.new.proxy }
-        ensures held { self.new.proxy.client.held ≤ self.old.proxy.client.held }
+        ensures held { self.new.proxy.client.buffered ≤ self.old.proxy.client.buffered }
         ensures less { result ≡ Ok None → waits self.new.proxy ≡ false
-            → self.new.proxy.client.held < self.new.proxy.client.limit }
+            → self.new.proxy.client.buffered
+            ≡ kept_length self.new.proxy.client.limit self.new.proxy.client.bytes }
         ensures err { OnErr result (RelaysInPart F.law [] piece.now
             (relay_state_of F.state self.old) (relay_state_of F.state self.new)) }
         ensures fails { OnErr result
-            ((¬ (piece.now ≡ [])) ⊎ FailsSo (relay_state_of F.state self.new)) }
+            (LacksServerRoom (relay_state_of F.state self.old) piece.now
+            ⊎ FailsSo (relay_state_of F.state self.new)) }
     {
         self.proxy.from_server(piece)?;
         self.pass_all(alloc)
@@ -99,9 +105,10 @@ impl<F: Filter + Drop> Relay<F> {
             (relay_state_of F.state self.old) (relay_state_of F.state self.new)) }
         ensures ended { IfOk result (λ ended. IfSome ended (λ end. IsEnd self.new.proxy end)) }
         ensures settled { result ≡ Ok None → IsSettled self.new.proxy }
-        ensures held { self.new.proxy.client.held ≤ self.old.proxy.client.held }
+        ensures held { self.new.proxy.client.buffered ≤ self.old.proxy.client.buffered }
         ensures less { result ≡ Ok None → waits self.new.proxy ≡ false
-            → self.new.proxy.client.held < self.new.proxy.client.limit }
+            → self.new.proxy.client.buffered
+            ≡ kept_length self.new.proxy.client.limit self.new.proxy.client.bytes }
         ensures err { OnErr result (RelaysInPart F.law [] []
             (relay_state_of F.state self.old) (relay_state_of F.state self.new)) }
         ensures fails { OnErr result (FailsSo (relay_state_of F.state self.new)) }

@@ -6,25 +6,25 @@ ghost use Rattle.unftp_control_defs.specs.FtpCommand.{FtpCommand};
 ghost use Rattle.unftp_control_defs.specs.FtpReply.{FtpReply};
 ghost use Rattle.unftp_control_defs.specs.Lines.{IsLine};
 ghost use Rattle.unftp_control_defs.specs.Outcome.{outcome};
-ghost use Rattle.unftp_control_read.specs.ReplyDecoding.{pushed};
+ghost use Rattle.unftp_control_read.specs.ReplyDecoding.{pushed as pushed_reply};
 ghost use Rattle.unftp_control_write.specs.Forwarding.{IsForwarded};
 ghost use Rattle.unftp_control_client.specs.Dialogue.{next_to};
 ghost use Rattle.unftp_control_proxy.specs.ProxyAnswers.{is_answer};
-ghost use Rattle.unftp_control_proxy.specs.ClientLines.{front_line, line_in, with_piece};
-ghost use Rattle.unftp_control_proxy.specs.ProxyCalls.{AnsweredBy, GivesAnswer, IsDecidable, PassesReply, ProxyState, ReplyBytes, SentAs, decided};
+ghost use Rattle.unftp_control_serve.specs.ClientLines.{front_line};
+ghost use Rattle.unftp_control_serve.specs.Decoder.{line_in, pushed};
+ghost use Rattle.unftp_control_proxy.specs.ProxyCalls.{AnsweredBy, GivesAnswer, IsDecidable, IsLookedFor, PassesReply, ProxyState, ReplyBytes, SentAs, decided};
 ghost use Rattle.unftp_control_proxy.specs.Traffic.{IsTraffic, client_piece, nothing_passed, one_answer, one_line, one_reply, server_piece};
 
 /// What the contract of each call ensures says what passes in it; so with `traffic_is_joined` the
 /// laws of traffic are laws of all calls, in whatever order they are made.
 pub fn calls_are_traffic()
-    ensures from_client { (before later : ProxyState) (piece : Bytes) (held : ℕ)
-        → later ≡ record before { client = with_piece before.client piece held }
+    ensures from_client { (before later : ProxyState) (piece : Bytes)
+        → later ≡ record before { client = pushed before.client piece }
         → IsTraffic before (client_piece piece) later }
     ensures from_server { (before later : ProxyState) (piece : Bytes)
-        → later ≡ record before { server = pushed before.server piece }
+        → later ≡ record before { server = pushed_reply before.server piece }
         → IsTraffic before (server_piece piece) later }
-    ensures next_line { (before later : ProxyState) (found : Bool) (held : ℕ)
-        → later ≡ record before { client = record before.client { found = found; held = held } }
+    ensures next_line { (before later : ProxyState) → IsLookedFor before later
         → IsTraffic before nothing_passed later }
     ensures answered { (before later : ProxyState) (reply : FtpReply)
         → GivesAnswer before reply later → IsTraffic before (one_answer reply) later }

@@ -9,7 +9,7 @@ use Rattle.unftp_control_defs.proofs.LineLemmas.{lines_of-incomplete}
 use Rattle.unftp_control_serve.specs.Decoder.{kept_length, no_bytes}
 use Rattle.unftp_control_record.specs.Exchanges.{IsWhole, Read, all_asked, complete_exchanges, entries, log_lines}
 use Rattle.unftp_control_record.specs.Recording.{IsNew, IsRecorded, IsWaiting, LacksNext, Passed}
-use Rattle.unftp_control_record.specs.ToCome.{AreRead, exchanges_from, exchanges_to_come, lines_to_come, replies_so_far, taken_first}
+use Rattle.unftp_control_record.specs.ToCome.{AreRead, exchanges_from, exchanges_to_come, greeting_to_come, lines_to_come, replies_so_far}
 use Rattle.unftp_control_record.specs.declared.sent.SentLines.{SentLines}
 use Rattle.unftp_control_record.specs.declared.recorder.Limits.{Limits}
 use Rattle.unftp_control_record.specs.declared.recorder.Recorder.{Recorder}
@@ -24,17 +24,17 @@ mapped_first P f (x ∷ first) later all = (all.0, mapped_first P f first later 
 
 -- ---- what is to come
 
-taken-first : {lines : SentLines} (first : _) → lines.first ≡ first
+to_come-is : {lines : SentLines} (greeted : Bool) → lines.is_greeted ≡ greeted
     → (decoder : _) → lines.decoder ≡ decoder → (more : Bytes)
     → lines_to_come lines more
-    ≡ taken_first decoder.line first ++ log_lines decoder.limit (decoder.bytes ++ more)
-taken-first first is decoder same more =
-    λ i. taken_first (same i).line (is i) ++ log_lines (same i).limit ((same i).bytes ++ more)
+    ≡ greeting_to_come greeted ++ log_lines decoder.limit (decoder.bytes ++ more)
+to_come-is greeted is decoder same more =
+    λ i. greeting_to_come (is i) ++ log_lines (same i).limit ((same i).bytes ++ more)
 
 pub no_lines_left : (recorder : Recorder) → LacksNext true recorder
     → lines_to_come recorder.sent [] ≡ []
 no_lines_left recorder lacks =
-    taken-first _ lacks.0 recorder.sent.decoder refl []
+    to_come-is true lacks.0 recorder.sent.decoder refl []
     ∙ ap (log_lines recorder.sent.decoder.limit) (append-nil recorder.sent.decoder.bytes)
     ∙ ap (map _) (lines_of-incomplete recorder.sent.decoder.bytes lacks.1.unended)
 
@@ -42,7 +42,7 @@ module _ {limits : Limits} {recorder later : Recorder} {passed : Passed}
     (new : IsNew limits recorder) (is : IsRecorded recorder passed later) where
   pub new_lines_are : lines_to_come recorder.sent (passed.sent ++ [])
       ≡ all_asked (Some limits.line) passed.sent
-  new_lines_are = taken-first _ new.first (no_bytes (Some limits.line)) new.decoder
+  new_lines_are = to_come-is false new.not_greeted (no_bytes (Some limits.line)) new.decoder
       (passed.sent ++ [])
       ∙ ap (all_asked (Some limits.line)) (append-nil passed.sent)
 

@@ -6,7 +6,6 @@ use Rattle.unftp_control_read.specs.declared.errors.NextReplyError.{NextReplyErr
 use Rattle.unftp_control_read.specs.declared.errors.NextReplyError.TheVariants.{OutOfMemory}
 use Rattle.unftp_control_record.specs.Exchanges.{Entry, Read, lines_in, replies_in}
 use Rattle.unftp_control_record.specs.ToCome.{AreRead, HasNext, HasNoLine, HasNoReply, exchanges_to_come, lines_to_come, new_lines, replies_so_far, held_text}
-use Rattle.unftp_control_record.specs.declared.sent.First.TheVariants.{Connection, Pending}
 use Rattle.unftp_control_record.specs.declared.recorder.Exchange.{Exchange}
 use Rattle.unftp_control_record.specs.declared.recorder.Limits.{Limits}
 use Rattle.unftp_control_record.specs.declared.recorder.Recorder.{Recorder}
@@ -46,7 +45,7 @@ joined first later = record {
 
 -- a recorder that was given nothing
 pub record IsNew (limits : Limits) (recorder : Recorder) : Type 0 where
-  pub first : recorder.sent.first ≡ Connection
+  pub not_greeted : recorder.sent.is_greeted ≡ false
   pub decoder : recorder.sent.decoder ≡ (new_lines recorder.sent.alloc limits.line).decoder
   pub pending : recorder.given ≡ no_bytes (Some limits.reply)
   pub none : replies_so_far recorder.turn ≡ []
@@ -69,7 +68,7 @@ pub record IsRecorded (before : Recorder) (passed : Passed) (after : Recorder) :
 -- The next exchange has no final reply yet; or it has, and no complete line came that it is to.
 abbrev pub LacksNext : Bool → Recorder → Type 0
 LacksNext false recorder = HasNoReply recorder.given
-LacksNext true recorder = (recorder.sent.first ≡ Pending) × HasNoLine recorder.sent.decoder
+LacksNext true recorder = (recorder.sent.is_greeted ≡ true) × HasNoLine recorder.sent.decoder
 
 abbrev pub IsWaiting : Recorder → Type 0
 IsWaiting recorder = LacksNext recorder.turn.is_complete recorder

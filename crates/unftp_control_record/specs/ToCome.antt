@@ -4,14 +4,10 @@ use Rattle.std.specs.declared.vec.Vec.{Vec}
 use Rattle.std.specs.declared.alloc.Global.{Global}
 use Rattle.unftp_control_defs.specs.Bytes.{Bytes, LF, Lacks}
 use Rattle.unftp_control_defs.specs.TakingSteps.{TakesReply}
-use Rattle.unftp_control_log.specs.LogLine.{log_line}
 use Rattle.unftp_control_read.specs.ReplyDecoding.{IsShortPart, PendingReplies, content}
 use Rattle.unftp_control_serve.specs.Decoder as decoder
 use Rattle.unftp_control_serve.specs.Decoder.{kept_length}
-use Rattle.unftp_control_serve.specs.EventMeaning.{event_meant}
 use Rattle.unftp_control_record.specs.Exchanges.{Read, complete_after, complete_exchanges, log_lines}
-use Rattle.unftp_control_record.specs.declared.sent.First.{First}
-use Rattle.unftp_control_record.specs.declared.sent.First.TheVariants.{Connection, Pending, Taken, Logged}
 use Rattle.unftp_control_record.specs.declared.sent.SentLines.{SentLines}
 use Rattle.unftp_control_record.specs.declared.turn.Turn.{Turn}
 
@@ -21,31 +17,19 @@ use Rattle.unftp_control_record.specs.declared.turn.Turn.{Turn}
 abbrev pub held_text : Option (Vec ℕ Global) → Option Bytes
 held_text line = option_map (λ line. line.items) line
 
--- what the next exchange is to, where that was taken from what the client sent; a line that is not
--- logged yet has these bytes
-abbrev pub taken_first : Bytes → First → List (Option Bytes)
-taken_first line Connection = None ∷ []
-taken_first line Pending = []
-taken_first line (Taken event) = Some (log_line (event_meant event) line) ∷ []
-taken_first line (Logged text) = Some text.items ∷ []
-
-abbrev pub taken_texts : Option (Option (Vec ℕ Global)) → List (Option Bytes)
-taken_texts None = []
-taken_texts (Some line) = held_text line ∷ []
-
--- no line was taken that is not logged yet
-abbrev pub IsLogged : First → Type 0
-IsLogged (Taken event) = ⊥
-IsLogged _ = ⊤
+-- what the first exchange is to, before it is taken: the connection
+abbrev pub greeting_to_come : Bool → List (Option Bytes)
+greeting_to_come false = None ∷ []
+greeting_to_come true = []
 
 -- what the next exchanges are to, where these bytes are still to come from the client
 abbrev pub lines_to_come : SentLines → Bytes → List (Option Bytes)
-lines_to_come lines more = taken_first lines.decoder.line lines.first
+lines_to_come lines more = greeting_to_come lines.is_greeted
     ++ log_lines lines.decoder.limit (lines.decoder.bytes ++ more)
 
 abbrev pub new_lines : Global → ℕ → SentLines
 new_lines alloc limit =
-    record { alloc = alloc; decoder = decoder.no_bytes (Some limit); first = Connection }
+    record { alloc = alloc; decoder = decoder.no_bytes (Some limit); is_greeted = false }
 
 abbrev pub SameToCome : SentLines → SentLines → Type 0
 SameToCome before after = (more : Bytes) → lines_to_come before more ≡ lines_to_come after more
@@ -66,7 +50,7 @@ abbrev pub TakesLine : {E : Type 0} → SentLines → Result (Option (Option (Ve
     → SentLines → Type 0
 TakesLine before result after = MatchResult result
     (λ next. MatchOption next
-    (SameToCome before after × (after.first ≡ Pending) × HasNoLine after.decoder)
+    (SameToCome before after × (after.is_greeted ≡ true) × HasNoLine after.decoder)
     (λ line. (more : Bytes)
     → lines_to_come before more ≡ held_text line ∷ lines_to_come after more))
     (λ _. SameToCome before after × HasNext after)

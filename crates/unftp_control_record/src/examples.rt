@@ -8,14 +8,12 @@ ghost use Rattle.unftp_control_read.specs.ReplyDecoding.{PendingReplies};
 ghost use Rattle.unftp_control_read.specs.declared.errors.NextReplyError.{NextReplyError as RustError};
 ghost use Rattle.unftp_control_read.specs.declared.errors.NextReplyError.TheVariants as NextReplyError;
 ghost use Rattle.unftp_control_serve.specs.Decoder.{no_bytes, pushed};
-ghost use Rattle.unftp_control_serve.specs.declared.event.Event.{Event as RustEvent};
 ghost use Rattle.unftp_control_record.specs.ExchangeLine.{exchange_line, lines_text, replies_text, reply_text};
 ghost use Rattle.unftp_control_record.specs.Exchanges.{Entry, IsWhole, all_asked, complete_exchanges, entries, log_lines, open_after, open_part};
 ghost use Rattle.unftp_control_record.specs.Recording.{IsBroken, IsNew, IsRecorded, IsUnanswered, IsWaiting, MeansError, TakesUnanswered, joined, one_entry, sent_piece};
-ghost use Rattle.unftp_control_record.specs.ToCome.{AreRead, HasNext, HasNoLine, HasNoReply, IsLogged, exchanges_from, exchanges_to_come, lines_to_come, new_lines, replies_so_far, taken_first};
+ghost use Rattle.unftp_control_record.specs.ToCome.{AreRead, HasNext, HasNoLine, HasNoReply, exchanges_from, exchanges_to_come, greeting_to_come, lines_to_come, new_lines, replies_so_far};
 ghost use Rattle.unftp_control_record.specs.declared.recorder.Limits.{Limits as RustLimits};
 ghost use Rattle.unftp_control_record.specs.declared.recorder.Recorder.{Recorder as RustRecorder};
-ghost use Rattle.unftp_control_record.specs.declared.sent.First.TheVariants as First;
 
 /// The greeting comes first, and then each complete line, as a log shows it.
 pub fn lines_are_logged()
@@ -81,14 +79,12 @@ pub fn lines_are_to_come()
         ≡ None ∷ Some (codes "NOOP") ∷ [] }
     ensures pieces { (alloc : RustGlobal) → lines_to_come (record (new_lines alloc 6) {
       decoder = pushed (no_bytes (Some 6)) (codes "NO");
-      first = First.Pending;
+      is_greeted = true;
     }) (codes "OP\r\n") ≡ Some (codes "NOOP") ∷ [] }
-    ensures taken { (line : Bytes) → taken_first line First.Pending ≡ [] }
-    ensures not_logged { (event : RustEvent) → IsLogged (First.Taken event) → ⊥ }
-    ensures logged { IsLogged First.Connection }
+    ensures greeting { greeting_to_come true ≡ [] }
     ensures next { (alloc : RustGlobal) → HasNext (new_lines alloc 6) }
     ensures no_next { (alloc : RustGlobal)
-        → HasNext (record (new_lines alloc 6) { first = First.Pending }) → ⊥ }
+        → HasNext (record (new_lines alloc 6) { is_greeted = true }) → ⊥ }
     ensures no_line { HasNoLine (no_bytes (Some 6)) }
     ensures line { HasNoLine (record (no_bytes (Some 6)) { bytes = codes "\n" }) → ⊥ }
 {}
@@ -116,22 +112,22 @@ pub fn recorders_wait()
     ensures greeting { (limits : RustLimits) (recorder : RustRecorder) → IsNew limits recorder
         → exchanges_to_come recorder.turn [] ≡ [] }
     ensures first { (limits : RustLimits) (recorder : RustRecorder) → IsNew limits recorder
-        → recorder.sent.first ≡ First.Pending → ⊥ }
+        → recorder.sent.is_greeted ≡ true → ⊥ }
     ensures twice { (recorder : RustRecorder) (entry : Entry)
         → IsRecorded recorder (one_entry entry) recorder → ⊥ }
     ensures pieces { joined (sent_piece (codes "NO")) (sent_piece (codes "OP"))
         ≡ sent_piece (codes "NOOP") }
     ensures line { (recorder : RustRecorder) → recorder.turn.is_complete ≡ true
-        → recorder.sent.first ≡ First.Connection → IsWaiting recorder → ⊥ }
+        → recorder.sent.is_greeted ≡ false → IsWaiting recorder → ⊥ }
     ensures error { (recorder : RustRecorder)
         → MeansError true recorder NextReplyError.Malformed → ⊥ }
     ensures memory { (recorder : RustRecorder)
         → IsBroken recorder NextReplyError.OutOfMemory → ⊥ }
     ensures memory_for_no_line { (alloc : RustGlobal) (recorder : RustRecorder)
-        → recorder.sent ≡ record (new_lines alloc 6) { first = First.Pending }
+        → recorder.sent ≡ record (new_lines alloc 6) { is_greeted = true }
         → MeansError true recorder NextReplyError.OutOfMemory → ⊥ }
     ensures no_line_unanswered { (alloc : RustGlobal) (before after : RustRecorder)
-        (error : RustError) → after.sent ≡ record (new_lines alloc 6) { first = First.Pending }
+        (error : RustError) → after.sent ≡ record (new_lines alloc 6) { is_greeted = true }
         → TakesUnanswered before (Err error) after → ⊥ }
     ensures unanswered { (before after : RustRecorder) (entry : Entry)
         → IsUnanswered before entry after → replies_so_far after.turn ≡ entry.replies

@@ -1,7 +1,7 @@
 //! The recorder.
 ghost use Rattle.std.specs.Prelude.{◌≡◌, ◌<◌, ◌≤◌, ◌+◌, [], OnErr, OnOk, false, length, map};
 ghost use Rattle.unftp_control_read.specs.ReplyDecoding.{content};
-ghost use Rattle.unftp_control_record.specs.ToCome.{IsLogged, replies_so_far};
+ghost use Rattle.unftp_control_record.specs.ToCome.{replies_so_far};
 ghost use Rattle.unftp_control_record.specs.Recording.{IsNew, IsRecorded, Records, TakesUnanswered, given_piece, nothing_passed, sent_piece};
 
 use crate::sent::SentLines;
@@ -56,15 +56,14 @@ impl Recorder {
         }
     }
 
-    /// Appends a piece of what the client sent. When out of memory, the piece is not appended, and
-    /// nothing else is lost. It only is where the buffer would hold more bytes than it ever did, and
-    /// never for an empty piece; or where `next_exchange` was out of memory for the line before.
+    /// Appends a piece of what the client sent. When out of memory, nothing changes; it only is
+    /// where the buffer would hold more bytes than it ever did, and never for an empty piece.
     pub fn sent(&mut self, piece: &[u8]) -> Result<(), AllocError>
         ensures ok { OnOk result (IsRecorded self.old (sent_piece piece.now) self.new) }
-        ensures err { OnErr result (IsRecorded self.old nothing_passed self.new) }
-        ensures some { OnErr result (piece.now ≡ [] → ¬ IsLogged self.old.sent.first) }
-        ensures memory { OnErr result (IsLogged self.old.sent.first
-            → self.old.sent.decoder.held < self.old.sent.decoder.buffered + length piece.now) }
+        ensures err { OnErr result (self.new ≡ self.old) }
+        ensures some { OnErr result (¬ (piece.now ≡ [])) }
+        ensures memory { OnErr result
+            (self.old.sent.decoder.held < self.old.sent.decoder.buffered + length piece.now) }
     {
         self.sent.push(piece)
     }

@@ -1,33 +1,21 @@
 //! What the client sent.
-ghost use Rattle.std.specs.Prelude.{◌≡◌, ◌<◌, ◌≤◌, ◌+◌, ◌++◌, [], OnErr, OnOk, length};
+ghost use Rattle.std.specs.Prelude.{◌≡◌, ◌<◌, ◌≤◌, ◌+◌, ◌++◌, [], IfOk, IsTrue, OnErr, OnOk, length};
 ghost use Rattle.unftp_control_defs.specs.Bytes.{Bytes};
-ghost use Rattle.unftp_control_record.specs.ToCome.{HasNext, HasNoLine, IsLogged, SameToCome, TakesLine, lines_to_come, new_lines, taken_first, taken_texts};
-ghost use Rattle.unftp_control_record.specs.declared.sent.First.TheVariants.{Pending as NotTaken};
+ghost use Rattle.unftp_control_log.specs.LogLine.{logged};
+ghost use Rattle.unftp_control_serve.specs.ClientLines.{front_line};
+ghost use Rattle.unftp_control_record.specs.ToCome.{SameToCome, TakesLine, lines_to_come, new_lines};
 
 use std::alloc::{AllocError, Global};
-use std::mem;
 use unftp_control_log::write_log_line;
-use unftp_control_serve::{Event, EventDecoder};
+use unftp_control_serve::EventDecoder;
 
-/// What the next exchange is to, as far as it is known.
-#[derive(Drop)]
-pub enum First {
-    /// The connection, which the server greets.
-    Connection,
-    /// The next line, which is not taken yet.
-    Pending,
-    /// A line that was taken, and is not logged yet: the decoder has its bytes.
-    Taken(Event),
-    /// A line, as a log shows it.
-    Logged(Vec<u8>),
-}
-
-/// The lines that the client sent, from the first on that is of no exchange yet.
+/// The lines that the client sent, from the first on that is of no exchange yet. The first exchange
+/// is to the connection, which the server greets.
 #[derive(Drop)]
 pub struct SentLines {
     alloc: Global,
     decoder: EventDecoder,
-    first: First,
+    is_greeted: bool,
 }
 
 impl SentLines {
@@ -39,21 +27,21 @@ impl SentLines {
         SentLines {
             alloc,
             decoder: EventDecoder::with_limit(alloc, limit),
-            first: First::Connection,
+            is_greeted: false,
         }
     }
 
-    /// Appends a piece. When out of memory, nothing is lost.
+    /// Appends a piece. When out of memory, nothing changes; it only is where the buffer would hold
+    /// more bytes than it ever did, and never for an empty piece.
     pub(crate) fn push(&mut self, piece: &[u8]) -> Result<(), AllocError>
         ensures ok { OnOk result ((more : Bytes)
             → lines_to_come self.old (piece.now ++ more) ≡ lines_to_come self.new more) }
-        ensures err { OnErr result (SameToCome self.old self.new) }
+        ensures err { OnErr result (self.new ≡ self.old) }
         ensures limit { self.new.decoder.limit ≡ self.old.decoder.limit }
-        ensures some { OnErr result (piece.now ≡ [] → ¬ IsLogged self.old.first) }
-        ensures memory { OnErr result (IsLogged self.old.first
-            → self.old.decoder.held < self.old.decoder.buffered + length piece.now) }
+        ensures some { OnErr result (¬ (piece.now ≡ [])) }
+        ensures memory { OnErr result
+            (self.old.decoder.held < self.old.decoder.buffered + length piece.now) }
     {
-        log_first(&mut self.first, self.decoder.line(), self.alloc)?;
         self.decoder.push(piece)
     }
 
@@ -63,60 +51,27 @@ impl SentLines {
         ensures takes { TakesLine self.old result self.new }
         ensures limit { self.new.decoder.limit ≡ self.old.decoder.limit }
     {
-        self.take_first()?;
-        log_first(&mut self.first, self.decoder.line(), self.alloc)?;
-        Ok(pop_first(&mut self.first))
-    }
-
-    /// Takes the first line, where it is complete and is not taken yet.
-    fn take_first(&mut self) -> Result<(), AllocError>
-        ensures same { SameToCome self.old self.new }
-        ensures none { OnOk result (self.new.first ≡ NotTaken → HasNoLine self.new.decoder) }
-        ensures err { OnErr result (HasNext self.new) }
-        ensures limit { self.new.decoder.limit ≡ self.old.decoder.limit }
-    {
-        let First::Pending = &self.first else {
-            return Ok(());
+        if !self.is_greeted {
+            self.is_greeted = true;
+            return Ok(Some(None));
+        }
+        let Some(_) = self.decoder.find_line() else {
+            return Ok(None);
         };
-        if let Some(event) = self.decoder.next_event()? {
-            let pending = mem::replace(&mut self.first, First::Taken(event));
-            drop(pending);
-        }
-        Ok(())
+        let text = log_found_line(&self.decoder, self.alloc)?;
+        self.decoder.take_line();
+        Ok(Some(Some(text)))
     }
 }
 
-/// Logs the line that was taken, where it is not logged yet. When out of memory, it is as it was.
-fn log_first(first: &mut First, line: &[u8], alloc: Global) -> Result<(), AllocError>
-    ensures same { OnOk result
-        ((other : Bytes) → taken_first line.now first.old ≡ taken_first other first.new) }
-    ensures logged { OnOk result (IsLogged first.new) }
-    ensures err { OnErr result (first.new ≡ first.old) }
-    ensures taken { OnErr result (¬ IsLogged first.old) }
+/// The line that was found, as a log shows it.
+fn log_found_line(decoder: &EventDecoder, alloc: Global) -> Result<Vec<u8>, AllocError>
+    requires { IsTrue decoder.now.found }
+    ensures logged { IfOk result (λ text. text.items
+        ≡ logged decoder.now.limit (front_line decoder.now.bytes)) }
 {
-    let First::Taken(event) = &*first else {
-        return Ok(());
-    };
+    let event = decoder.found_event()?;
     let mut text = Vec::new(alloc);
-    write_log_line(event, line, &mut text)?;
-    let taken = mem::replace(first, First::Logged(text));
-    drop(taken);
-    Ok(())
-}
-
-/// What the next exchange is to, where that is known. It is not known any more.
-fn pop_first(first: &mut First) -> Option<Option<Vec<u8>>>
-    requires { IsLogged first.old }
-    ensures first { (line : Bytes) → taken_first line first.old ≡ taken_texts result }
-    ensures after { first.new ≡ NotTaken }
-{
-    match mem::replace(first, First::Pending) {
-        First::Connection => Some(None),
-        First::Logged(text) => Some(Some(text)),
-        First::Pending => None,
-        First::Taken(event) => {
-            drop(event);
-            None
-        }
-    }
+    write_log_line(&event, decoder.found_line(), &mut text)?;
+    Ok(text)
 }

@@ -1,308 +1,477 @@
--- What a call of `next_event` takes, by what the codec decodes.
-use Rattle.std.proofs.Common.{◌≡◌, ℕ, ◌+◌, ◌-◌, ◌≤◌, Bool, true, false, List, [], ◌∷◌, ◌++◌, length, take, drop, Option, Some, None, Result, Ok, Err, refl, sym, ap, subst, ◌∙◌, arith, append_assoc, length-drop}
-use Rattle.std.specs.Prelude.{if◌then◌else◌, OnErr}
-use Rattle.std.specs.List.{concat}
-use Rattle.std.specs.declared.alloc.AllocError.{AllocError}
-use Rattle.std.proofs.lemmas.List.{drop-drop, take-append-drop}
+-- The first line of the pending bytes, as a decoder keeps it.
+use Rattle.std.proofs.Common.{◌≡◌, ℕ, ◌+◌, ◌-◌, ◌≤◌, Bool, true, false, [], ◌++◌, length, take, drop, Option, Some, None, Ok, refl, sym, ap, subst, ◌∙◌, arith, append_assoc, length-drop}
+use Rattle.std.specs.Prelude.{if◌then◌else◌, is_some}
+use Rattle.std.proofs.lemmas.List.{append_cancel_right, drop-drop, length-take-le, take-append-drop}
 use Rattle.unftp_control_defs.specs.Bytes.{Bytes}
-use Rattle.unftp_control_defs.specs.Events.{FtpEvent, Refused, event_for, event_of, line_too_long}
-use Rattle.unftp_control_defs.specs.FtpCommand.{Answer, InvalidUtf8, InvalidCommand, InvalidEol}
-use Rattle.unftp_control_defs.specs.Lines.{Lines, incomplete_line, lines_of}
+use Rattle.unftp_control_defs.specs.Events.{Refused, event_for, event_of, exceeds, line_too_long}
+use Rattle.unftp_control_defs.specs.Lines.{IsLine, lines_of}
 use Rattle.unftp_control_defs.specs.Outcome.{outcome}
-use Rattle.unftp_control_codecs.specs.Memory.{MayTakeMemory}
-use Rattle.unftp_control_defs.specs.TakingSteps.{TakesEvent}
-use Rattle.unftp_control_defs.proofs.LineLemmas.{Lines-lines_of, line_first}
-use Rattle.unftp_control_codecs.specs.declared.FirstLine.{FirstLine}
-use Rattle.unftp_control_codecs.specs.declared.FirstLine.TheVariants.{Incomplete, TooLong, Complete}
+use Rattle.unftp_control_defs.proofs.LineLemmas.{lines_of-incomplete}
 use Rattle.unftp_control_codecs.specs.Codec.{Codec}
-use Rattle.unftp_control_codecs.specs.FirstLine.{IsDropped, IsScannedWithin, first_line, goes_on, reset}
-use Rattle.unftp_control_codecs.proofs.FirstLineLemmas.{Counts, Finds, FindsNone, counts, finds}
+use Rattle.unftp_control_codecs.specs.FirstLine.{IsScannedWithin, first_line, goes_on, kept_length, reset}
+use Rattle.unftp_control_codecs.specs.Memory.{MayTakeMemory}
+use Rattle.unftp_control_codecs.specs.declared.FirstLine.{FirstLine}
+use Rattle.unftp_control_codecs.specs.declared.FirstLine.TheVariants as codec
 use Rattle.unftp_control_codecs.proofs.CallLemmas.{goes_on_keeps}
-use Rattle.unftp_control_serve.specs.declared.event.Event.{Event}
+use Rattle.unftp_control_codecs.proofs.FirstLineLemmas.{Counts, Finds, counts, finds}
+use Rattle.unftp_control_serve.specs.ClientLines.{after_front_line, first_client_line, front_line, unless_too_long}
+use Rattle.unftp_control_serve.specs.Decoder.{HasNoLine, IsDecoder, IsFirst, MayRunOut, Pending, TakesLine, found_as, is_found, line_after, pending_of, scanned_to, without_line}
 use Rattle.unftp_control_serve.specs.EventMeaning.{event_meant, refuses_length}
-use Rattle.unftp_control_serve.specs.Decoder.{IsDecoder, FirstMayRunOut, MayRunOut, TakesNext, dropped_after, line_length, pending_of}
+use Rattle.unftp_control_serve.specs.declared.event.Event.{Event}
+use Rattle.unftp_control_serve.specs.declared.decoder.ClientLine.{ClientLine}
+use Rattle.unftp_control_serve.specs.declared.decoder.ClientLine.TheVariants.{Complete, TooLong}
+use Rattle.unftp_control_serve.specs.declared.decoder.First.{First}
+use Rattle.unftp_control_serve.specs.declared.decoder.First.TheVariants as first
+use Rattle.unftp_control_serve.proofs.ClientLineLemmas.{BeginsWithLine, HasFirst, after_front_line-is, first_client_line-is, first_line as has_first, front_line-is, may_run_out, no_line}
+use Rattle.unftp_control_serve.proofs.EventLineLemmas.{line_after-taken, refuses_length-exceeds}
 
--- a line that is not too long is not refused for its length
-pub not_too_long : (answer : Answer) → refuses_length (event_of answer) ≡ false
-not_too_long (Ok command) = refl
-not_too_long (Err InvalidUtf8) = refl
-not_too_long (Err InvalidCommand) = refl
-not_too_long (Err InvalidEol) = refl
+-- ---- what is known of the first line
 
-pub on_err : {T E : Type 0} {P : Type 0} (result : Result T E) → P → OnErr result P
-on_err (Ok x) p = tt
-on_err (Err e) p = p
+-- what is shown of it, and what it is
+abbrev pub seen : First → Bytes → Bytes
+seen first.Unknown kept = []
+seen (first.Line n) kept = take n kept
+seen first.TooLong kept = []
 
--- the line that memory may run out for, as an event that can be taken
-pub MayRunOut-taken : {limit : Option ℕ} (bytes : Bytes) → MayRunOut limit bytes
-    → (event : FtpEvent) × (after : Bytes) × TakesEvent limit bytes event after
-MayRunOut-taken {limit} bytes = at_lines (lines_of bytes) (Lines-lines_of bytes)
-  where
-    at_lines : (lines : List Bytes) → Lines bytes lines (incomplete_line bytes)
-        → FirstMayRunOut limit lines
-        → (event : FtpEvent) × (after : Bytes) × TakesEvent limit bytes event after
-    at_lines [] is may = absurd may
-    at_lines (line ∷ lines) is may = (
-      event_for limit line,
-      concat lines ++ incomplete_line bytes,
-      record {
-        line = line;
-        is_line = is.each.0;
-        whole = is.whole ∙ append_assoc line (concat lines) (incomplete_line bytes);
-        meaning = refl;
-      },
-    )
+abbrev pub kind_of : First → Option ClientLine
+kind_of first.Unknown = None
+kind_of (first.Line n) = Some Complete
+kind_of first.TooLong = Some TooLong
 
-module _ (old new : Codec) (dropped before : Bytes) (taken : ℕ) where
-  abbrev after : Bytes
-  after = drop taken before
+-- the bytes that are kept after it
+abbrev pub kept_after : First → Bytes → Bytes
+kept_after first.Unknown kept = kept
+kept_after (first.Line n) kept = drop n kept
+kept_after first.TooLong kept = kept
 
-  abbrev dropped' : Bytes
-  dropped' = dropped_after new.skipping dropped (take taken before)
-
-  -- the line of this event is taken
-  pub record Took (event : FtpEvent) : Type 0 where
-    pub takes : TakesEvent old.limit (dropped ++ before) event after
-    pub place : new.place ≡ 0
-    pub unskipped : new.skipping ≡ false
-    pub shown : refuses_length event ≡ false → dropped ≡ []
-
-  -- memory ran out, and nothing is taken
-  pub record RanOut : Type 0 where
-    pub none : taken ≡ 0
-    pub place : new.place ≡ old.place
-    pub unskipped : new.skipping ≡ false
-    pub none_dropped : dropped ≡ []
-    pub may : MayRunOut old.limit before
-
-  abbrev ComesTo : {E : Type 0} → Result (Option Event) E → Type 0
-  ComesTo (Ok None) = FindsNone old.limit dropped before new taken
-  ComesTo (Ok (Some event)) = Took (event_meant event)
-  ComesTo (Err error) = RanOut
-
-  -- what is dropped then
-  none_now : new.skipping ≡ false → dropped' ≡ []
-  none_now off = rw off refl
-
-  all_now : FindsNone old.limit dropped before new taken → dropped' ≡ dropped ++ take taken before
-  all_now none = by_skipping new.skipping none.dropped_well.2
-    where
-      by_skipping : (skipping : Bool) → (skipping ≡ false → dropped ++ take taken before ≡ [])
-          → dropped_after skipping dropped (take taken before) ≡ dropped ++ take taken before
-      by_skipping true empty = refl
-      by_skipping false empty = sym (empty refl)
-
-  unskipped_well : new.skipping ≡ false → IsDropped new dropped'
-  unskipped_well off = rw (none_now off) (tt, (λ on. absurd (cc)), (λ _. refl))
-
-  within_then : {E : Type 0} (result : Result (Option Event) E) → IsScannedWithin old before
-      → ComesTo result → IsScannedWithin new after
-  within_then (Ok None) well none = none.scanned_within
-  within_then (Ok (Some event)) well took = rw took.place (omega arith, tt)
-  within_then (Err error) well ran = rw (ran.none, ran.place) well
-
-  dropped_then : {E : Type 0} (result : Result (Option Event) E) → ComesTo result
-      → IsDropped new dropped'
-  dropped_then (Ok None) none = rw (all_now none) none.dropped_well
-  dropped_then (Ok (Some event)) took = unskipped_well took.unskipped
-  dropped_then (Err error) ran = unskipped_well ran.unskipped
-
-  takes_next : {E : Type 0} (line line' : Bytes) (buffered held : ℕ)
-      (result : Result (Option Event) E) → ComesTo result
-      → TakesNext (pending_of old dropped line before buffered held) result
-      (pending_of new dropped' line' after buffered held)
-  takes_next line line' buffered held (Ok None) none = record {
-    unended = none.unended;
-    same = rw (all_now none) (append_assoc dropped (take taken before) after
-        ∙ ap (λ bytes. dropped ++ bytes) (take-append-drop taken before));
-    all_scanned = omega (arith, none.all_scanned);
-    kept = none.kept;
-  }
-  takes_next line line' buffered held (Ok (Some event)) took = record {
-    takes = rw (none_now took.unskipped) took.takes;
-    all_kept = rw (none_now took.unskipped) refl;
-    none_scanned = rw (none_now took.unskipped) (omega (arith, took.place));
-  }
-  takes_next line line' buffered held (Err error) ran = record {
-    same = rw (none_now ran.unskipped, ran.none_dropped, ran.none) refl;
-    kept = rw ran.none refl;
-    unscanned = rw (ran.none, ran.place) refl;
+module _ (codec : Codec) (dropped kept : Bytes) where
+  begins-Line : (n : ℕ) → IsFirst codec dropped kept (first.Line n)
+      → BeginsWithLine (dropped ++ kept) (take n kept) (drop n kept)
+  begins-Line n is = record {
+    is_line = is.2;
+    whole = ap (λ front. front ++ kept) is.0 ∙ sym (take-append-drop n kept);
   }
 
-  runs_out : {E : Type 0} (result : Result (Option Event) E) → ComesTo result
-      → OnErr result (MayRunOut old.limit (dropped ++ before))
-  runs_out (Ok event) comes = tt
-  runs_out (Err error) ran = rw ran.none_dropped ran.may
+  begins-TooLong : IsFirst codec dropped kept first.TooLong
+      → BeginsWithLine (dropped ++ kept) dropped kept
+  begins-TooLong is = record { is_line = is.0; whole = refl }
 
-  -- the line of an event that is not that of one too long: none of its bytes were dropped
-  line_taken : {E : Type 0} (result : Result (Option Event) E) → taken ≤ length before
-      → ComesTo result →
-      take (line_length result taken) before
-      ≡ take (line_length result (length (dropped ++ before) - length (dropped' ++ after)))
-      (dropped ++ before)
-  line_taken (Ok None) within comes = refl
-  line_taken (Err error) within comes = refl
-  line_taken (Ok (Some event)) within took = by_length (refuses_length (event_meant event)) took.shown
-    where
-      by_length : (too_long : Bool) → (too_long ≡ false → dropped ≡ []) →
-          take (if too_long then 0 else taken) before
-          ≡ take (if too_long then 0 else (length (dropped ++ before) - length (dropped' ++ after)))
-          (dropped ++ before)
-      by_length true shown = refl
-      by_length false shown = rw (none_now took.unskipped, shown refl)
-          (ap (λ n. take n before) (omega (arith, within, length-drop taken before)))
+  -- it is a line, where it was found, and is shown so
+  pub found_is_line : (f : First) → IsFirst codec dropped kept f → is_found f ≡ true
+      → IsLine (front_line (dropped ++ kept))
+  found_is_line first.Unknown is found = absurd (cc)
+  found_is_line (first.Line n) is found =
+      subst IsLine (sym (front_line-is (begins-Line n is))) is.2
+  found_is_line first.TooLong is found =
+      subst IsLine (sym (front_line-is (begins-TooLong is))) is.0
 
--- So many of the bytes of a buffer after those that are taken are taken too, with this result.
-pub record TakesFrom (old new : Codec) (dropped dropped' buf : Bytes)
-    (start taken : ℕ) (result : Result (Option Event) AllocError) : Type 0 where
-  pub within : taken ≤ length (drop start buf)
-  pub limit : new.limit ≡ old.limit
-  pub comes : ComesTo old new dropped (drop start buf) taken result
-  pub dropped_is : dropped' ≡ dropped_after new.skipping dropped (take taken (drop start buf))
+  pub shown-is : (f : First) → IsFirst codec dropped kept f → is_found f ≡ true
+      → unless_too_long codec.limit (front_line (dropped ++ kept)) ≡ seen f kept
+  shown-is first.Unknown is found = absurd (cc)
+  shown-is (first.Line n) is found = rw (front_line-is (begins-Line n is), is.3) refl
+  shown-is first.TooLong is found = rw (front_line-is (begins-TooLong is), is.1) refl
 
--- what the codec finds in the pending bytes decides what is taken
-module _ {old : Codec} {dropped buf pending : Bytes} {start line held capacity : ℕ}
-    (well : IsDecoder old dropped buf start line held capacity) (from_start : pending ≡ drop start buf) where
-  found_in : (found : FirstLine) → found ≡ first_line old pending
-      → Finds old dropped (drop start buf) (goes_on old pending) found
-      × Counts old (drop start buf) (goes_on old pending) found
-  found_in found is = rw (is, from_start) (
-    finds old dropped (drop start buf) well.place_within well.dropped_well,
-    counts old (drop start buf) well.place_within.0,
+  pub seen-is : (f : First) → IsFirst codec dropped kept f
+      → (if is_found f then unless_too_long codec.limit (front_line (dropped ++ kept)) else [])
+      ≡ seen f kept
+  seen-is first.Unknown is = refl
+  seen-is (first.Line n) is = shown-is (first.Line n) is refl
+  seen-is first.TooLong is = shown-is first.TooLong is refl
+
+  pub kind-is : (f : First) → IsFirst codec dropped kept f
+      → (if is_found f then first_client_line codec.limit (lines_of (dropped ++ kept)) else None)
+      ≡ kind_of f
+  kind-is first.Unknown is = refl
+  kind-is (first.Line n) is =
+      first_client_line-is (begins-Line n is) codec.limit ∙ rw is.3 refl
+  kind-is first.TooLong is =
+      first_client_line-is (begins-TooLong is) codec.limit ∙ rw is.1 refl
+
+  pub after-is : (f : First) → IsFirst codec dropped kept f → is_found f ≡ true
+      → after_front_line (dropped ++ kept) ≡ kept_after f kept
+  after-is first.Unknown is found = absurd (cc)
+  after-is (first.Line n) is found = after_front_line-is (begins-Line n is)
+  after-is first.TooLong is found = after_front_line-is (begins-TooLong is)
+
+  -- its event
+  pub line_event : (n : ℕ) (seen : Bytes) → IsFirst codec dropped kept (first.Line n)
+      → seen ≡ take n kept
+      → event_of (outcome seen) ≡ event_for codec.limit (front_line (dropped ++ kept))
+  line_event n seen is e = rw (e, front_line-is (begins-Line n is), is.3) refl
+
+  pub long_event : IsFirst codec dropped kept first.TooLong
+      → Refused line_too_long ≡ event_for codec.limit (front_line (dropped ++ kept))
+  long_event is = rw (front_line-is (begins-TooLong is), is.1) refl
+
+  pub line_memory : (n : ℕ) (seen : Bytes) → IsFirst codec dropped kept (first.Line n)
+      → seen ≡ take n kept → MayTakeMemory seen → MayRunOut codec.limit (dropped ++ kept)
+  line_memory n seen is e may =
+      may_run_out codec.limit (dropped ++ kept) (kind-is (first.Line n) is)
+      (subst MayTakeMemory (e ∙ sym (front_line-is (begins-Line n is))) may)
+
+  -- it is found again as it was
+  pub found_again : (line : Bytes) (buffered held : ℕ) (f : First) → IsFirst codec dropped kept f
+      → is_found f ≡ true → pending_of codec f dropped [] kept buffered held
+      ≡ found_as (pending_of codec f dropped line kept buffered held) (kind_of f) codec.tests
+  found_again line buffered held first.Unknown is found = absurd (cc)
+  found_again line buffered held (first.Line n) is found =
+      let after : length kept - n ≡ length (after_front_line (dropped ++ kept)) =
+      sym (length-drop n kept) ∙ sym (ap length (after-is (first.Line n) is found)) in
+      λ i. record {
+        bytes = dropped ++ kept;
+        kept = length kept;
+        limit = codec.limit;
+        found = true;
+        line = [];
+        scanned = codec.tests;
+        unscanned = after i;
+        buffered = buffered;
+        held = held;
+      }
+  found_again line buffered held first.TooLong is found =
+      let after : length kept ≡ length (after_front_line (dropped ++ kept)) =
+      sym (ap length (after-is first.TooLong is found)) in
+      let unscanned : length kept - 0 ≡ length (after_front_line (dropped ++ kept)) =
+      omega (arith, after) in
+      λ i. record {
+        bytes = dropped ++ kept;
+        kept = after i;
+        limit = codec.limit;
+        found = true;
+        line = [];
+        scanned = codec.tests;
+        unscanned = unscanned i;
+        buffered = buffered;
+        held = held;
+      }
+
+-- ---- a line that is taken
+
+module _ (codec : Codec) (dropped buf line : Bytes) (start held : ℕ) where
+  pub line_taken : (n : ℕ) → IsFirst codec dropped (drop start buf) (first.Line n)
+      → pending_of (reset codec) first.Unknown dropped (take n (drop (start + n - n) buf))
+      (drop (start + n) buf) (length buf) held
+      ≡ without_line (pending_of codec (first.Line n) dropped line (drop start buf) (length buf)
+      held)
+  line_taken n is =
+      let kept : Bytes = drop start buf in
+      let after : drop (start + n) buf ≡ after_front_line (dropped ++ kept) =
+      sym (drop-drop n start buf) ∙ sym (after-is codec dropped kept (first.Line n) is refl) in
+      let bytes : dropped ++ drop (start + n) buf ≡ after_front_line (dropped ++ kept) =
+      ap (λ dropped. dropped ++ drop (start + n) buf) is.0 ∙ after in
+      let taken : take n (drop (start + n - n) buf)
+      ≡ unless_too_long codec.limit (front_line (dropped ++ kept)) =
+      ap (λ n'. take n (drop n' buf)) (omega arith)
+      ∙ sym (shown-is codec dropped kept (first.Line n) is refl) in
+      let unscanned : length (drop (start + n) buf) - 0
+      ≡ length (after_front_line (dropped ++ kept)) = omega (arith, ap length after) in
+      λ i. record {
+        bytes = bytes i;
+        kept = length (after i);
+        limit = codec.limit;
+        found = false;
+        line = taken i;
+        scanned = codec.tests;
+        unscanned = unscanned i;
+        buffered = length buf;
+        held = held;
+      }
+
+  pub long_taken : IsFirst codec dropped (drop start buf) first.TooLong
+      → pending_of codec first.Unknown [] [] (drop start buf) (length buf) held
+      ≡ without_line (pending_of codec first.TooLong dropped line (drop start buf) (length buf)
+      held)
+  long_taken is =
+      let kept : Bytes = drop start buf in
+      let after : kept ≡ after_front_line (dropped ++ kept) =
+      sym (after-is codec dropped kept first.TooLong is refl) in
+      let taken : [] ≡ unless_too_long codec.limit (front_line (dropped ++ kept)) =
+      sym (shown-is codec dropped kept first.TooLong is refl) in
+      let unscanned : length kept - codec.place ≡ length (after_front_line (dropped ++ kept)) =
+      omega (arith, ap length after, is.3) in
+      λ i. record {
+        bytes = after i;
+        kept = length (after i);
+        limit = codec.limit;
+        found = false;
+        line = taken i;
+        scanned = codec.tests;
+        unscanned = unscanned i;
+        buffered = length buf;
+        held = held;
+      }
+
+-- ---- the search for it
+
+pub unknown : (f : First) → is_found f ≡ false → f ≡ first.Unknown
+unknown first.Unknown e = refl
+unknown (first.Line n) e = absurd (cc)
+unknown first.TooLong e = absurd (cc)
+
+pub fewer_left : (n start : ℕ) (buf : Bytes) {left : Bytes} → left ≡ drop n (drop start buf)
+    → length left ≤ length buf
+fewer_left n start buf is = omega (
+  arith,
+  ap length is,
+  length-drop n (drop start buf),
+  length-drop start buf,
+)
+
+-- all bytes are still there
+pub all_are : (n : ℕ) (dropped pending : Bytes) {dropped' rest : Bytes}
+    → rest ≡ drop n pending → dropped' ≡ dropped ++ take n pending
+    → dropped' ++ rest ≡ dropped ++ pending
+all_are n dropped pending rest_is dropped_is = rw (dropped_is, rest_is)
+    (append_assoc dropped (take n pending) (drop n pending)
+    ∙ ap (λ bytes. dropped ++ bytes) (take-append-drop n pending))
+
+-- A codec looks into the bytes that are kept, and is then the next one.
+module _ {old new : Codec} {f : First} {dropped buf bytes : Bytes} {start line held capacity : ℕ}
+    (well : IsDecoder old f dropped buf start line held capacity) (none : is_found f ≡ false)
+    (bytes_are : bytes ≡ drop start buf) (new_is : new ≡ goes_on old bytes) where
+  abbrev kept : Bytes
+  kept = drop start buf
+
+  abbrev before : Pending
+  before = pending_of old f dropped (take line (drop (start - line) buf)) kept (length buf) held
+
+  abbrev first_is : Option ClientLine
+  first_is = first_client_line old.limit (lines_of (dropped ++ kept))
+
+  found_in : (found : FirstLine) → found ≡ first_line old bytes
+      → Finds old dropped kept new found × Counts old kept new found
+  found_in found is = rw (new_is, is, bytes_are) (
+    finds old dropped kept well.place_within
+    (subst (IsFirst old dropped kept) (unknown f none) well.first_is),
+    counts old kept well.place_within.0,
   )
 
-  same_limit : {new : Codec} → new ≡ goes_on old pending → new.limit ≡ old.limit
-  same_limit codec = rw codec (goes_on_keeps old pending).limit
+  same_limit : new.limit ≡ old.limit
+  same_limit = rw new_is (goes_on_keeps old bytes).limit
 
-  pub scans_line : {new : Codec} {n : ℕ} → Complete n ≡ first_line old pending
-      → new ≡ reset (goes_on old pending)
-      → new.tests + (length (drop (start + n) buf) - new.place)
-      ≡ old.tests + (length (drop start buf) - old.place)
-  scans_line {n = n} found codec = let known = (found_in (Complete n) found).1.0 in rw codec
-      (omega (
-        arith,
-        known.counted,
-        known.within,
-        well.place_within.0,
-        length-drop start buf,
-        length-drop (start + n) buf,
-      ))
+  -- so many bytes leave the buffer, and are dropped
+  module _ (n : ℕ) (dropped' buf' : Bytes) (start' : ℕ) (within : start' ≤ length buf')
+      (fewer : length buf' ≤ length buf) (rest : drop start' buf' ≡ drop n kept)
+      (dropped_are : dropped' ≡ dropped ++ take n kept) where
+    same_bytes : dropped' ++ drop start' buf' ≡ dropped ++ kept
+    same_bytes = all_are n dropped kept rest dropped_are
 
-  pub takes_none : {new : Codec} {n : ℕ} (lost : Bytes) → Incomplete n ≡ first_line old pending
-      → new ≡ goes_on old pending → lost ≡ dropped_after new.skipping dropped (take n pending)
-      → TakesFrom old new dropped lost buf start n (Ok None)
-  takes_none {n = n} lost found codec is =
-      let known = found_in (Incomplete n) found in record {
-        within = omega (arith, known.1.all);
-        limit = same_limit codec;
-        comes = rw codec known.0;
-        dropped_is = rw from_start at is;
+    abbrev left : ℕ
+    left = length (drop start' buf')
+
+    -- no line is complete
+    module _ (is : codec.Incomplete n ≡ first_line old bytes) where
+      pub none_then : {capacity' : ℕ} → capacity' ≡ capacity
+          → IsDecoder new f dropped' buf' start' 0 held capacity'
+      none_then room = let none_found = (found_in (codec.Incomplete n) is).0 in record {
+        start_within = within;
+        line_within = omega arith;
+        place_within = subst (IsScannedWithin new) (sym rest) none_found.scanned_within;
+        first_is = rw (unknown f none, dropped_are) none_found.dropped_well;
+        limited = rw same_limit well.limited;
+        no_more = omega (arith, fewer, well.no_more);
+        room = rw room well.room;
       }
 
-  pub takes_long : {new : Codec} {n : ℕ} (event : Event) → TooLong n ≡ first_line old pending
-      → new ≡ goes_on old pending → event_meant event ≡ Refused line_too_long
-      → TakesFrom old new dropped [] buf start n (Ok (Some event))
-  takes_long {new = new} {n = n} event found codec is =
-      let known = found_in (TooLong n) found in
-      let unskipped : new.skipping ≡ false = rw codec known.1.2 in record {
-        within = omega (arith, known.1.0.within);
-        limit = same_limit codec;
-        comes = rw is record {
-          takes = known.0;
-          place = rw codec known.1.1;
-          unskipped = unskipped;
-          shown = λ short. absurd (cc);
-        };
-        dropped_is = rw unskipped refl;
+      none_first : first_is ≡ None
+      none_first = ap (first_client_line old.limit)
+          (lines_of-incomplete (dropped ++ kept) (found_in (codec.Incomplete n) is).0.unended)
+
+      all_scanned : left - new.place ≡ 0
+      all_scanned = omega (arith, ap length rest, (found_in (codec.Incomplete n) is).0.all_scanned)
+
+      pub none_seen : start' ≡ 0
+          → pending_of new f dropped' [] (drop start' buf') (length buf') held
+          ≡ found_as before first_is new.tests
+      none_seen at_start =
+          let none_found = (found_in (codec.Incomplete n) is).0 in
+          let kept_now : left ≡ kept_length old.limit (dropped ++ kept) =
+          ap length rest ∙ none_found.kept in
+          let place_now : left - scanned_to new f ≡ 0 =
+          ap (λ first. left - scanned_to new first) (unknown f none) ∙ all_scanned in
+          let held_now : length buf' ≡ kept_length old.limit (dropped ++ kept) =
+          (rw at_start refl) ∙ kept_now in
+          let now : pending_of new f dropped' [] (drop start' buf') (length buf') held
+          ≡ found_as before None new.tests = (λ i. record {
+            bytes = same_bytes i;
+            kept = kept_now i;
+            limit = same_limit i;
+            found = none i;
+            line = [];
+            scanned = new.tests;
+            unscanned = place_now i;
+            buffered = held_now i;
+            held = held;
+          }) in
+          now ∙ ap (λ first. found_as before first new.tests) (sym none_first)
+
+    -- the line is too long
+    module _ (is : codec.TooLong n ≡ first_line old bytes) where
+      pub long_then : {capacity' : ℕ} → capacity' ≡ capacity
+          → IsDecoder new first.TooLong dropped' buf' start' 0 held capacity'
+      long_then room =
+          let found = found_in (codec.TooLong n) is in
+          let takes = found.0 in
+          let same : takes.line ≡ dropped' = append_cancel_right takes.line dropped' (drop n kept)
+          (sym takes.whole ∙ sym same_bytes ∙ ap (λ bytes. dropped' ++ bytes) rest) in
+          let long : exceeds old.limit (length takes.line) ≡ true =
+          sym (refuses_length-exceeds old.limit takes.line)
+          ∙ ap refuses_length (sym takes.meaning) in record {
+            start_within = within;
+            line_within = omega arith;
+            place_within = rw found.1.1 (omega arith, tt);
+            first_is = (
+              subst IsLine same takes.is_line,
+              (λ i. exceeds (same_limit i) (length (sym same i))) ∙ long,
+              found.1.2,
+              found.1.1,
+            );
+            limited = rw same_limit well.limited;
+            no_more = omega (arith, fewer, well.no_more);
+            room = rw room well.room;
+          }
+
+      long_first : first_is ≡ Some TooLong
+      long_first =
+          let there = kind-is new dropped' (drop start' buf') first.TooLong (long_then refl).first_is in
+          (λ i. first_client_line (sym same_limit i) (lines_of (sym same_bytes i))) ∙ there
+
+      pub long_seen : length buf' ≡ length buf
+          → pending_of new first.TooLong dropped' [] (drop start' buf') (length buf') held
+          ≡ found_as before first_is new.tests
+      long_seen same_held =
+          let after : drop start' buf' ≡ after_front_line (dropped ++ kept) =
+          sym (ap after_front_line (sym same_bytes)
+          ∙ after-is new dropped' (drop start' buf') first.TooLong (long_then refl).first_is refl) in
+          let unscanned : left - 0 ≡ length (after_front_line (dropped ++ kept)) =
+          omega (arith, ap length after) in
+          let now : pending_of new first.TooLong dropped' [] (drop start' buf') (length buf') held
+          ≡ found_as before (Some TooLong) new.tests = (λ i. record {
+            bytes = same_bytes i;
+            kept = length (after i);
+            limit = same_limit i;
+            found = true;
+            line = [];
+            scanned = new.tests;
+            unscanned = unscanned i;
+            buffered = same_held i;
+            held = held;
+          }) in
+          now ∙ ap (λ first. found_as before first new.tests) (sym long_first)
+
+  -- the line is within the limit, and stays
+  module _ (n : ℕ) (is : codec.Complete n ≡ first_line old bytes) where
+    abbrev found_line : Finds old dropped kept new (codec.Complete n)
+        × Counts old kept new (codec.Complete n)
+    found_line = found_in (codec.Complete n) is
+
+    pub line_then : IsDecoder new (first.Line n) dropped buf start 0 held capacity
+    line_then = record {
+      start_within = well.start_within;
+      line_within = omega arith;
+      place_within = rw found_line.0.same_place well.place_within;
+      first_is = (
+        found_line.0.none_dropped,
+        found_line.1.0.within,
+        found_line.0.is_line,
+        ap (λ limit. exceeds limit (length (take n kept))) same_limit ∙ found_line.0.short,
+      );
+      limited = rw same_limit well.limited;
+      no_more = well.no_more;
+      room = well.room;
+    }
+
+    line_first : first_is ≡ Some Complete
+    line_first = ap (λ limit. first_client_line limit (lines_of (dropped ++ kept))) (sym same_limit)
+        ∙ kind-is new dropped kept (first.Line n) line_then.first_is
+
+    pub line_seen : pending_of new (first.Line n) dropped [] kept (length buf) held
+        ≡ found_as before first_is new.tests
+    line_seen =
+        let after : drop n kept ≡ after_front_line (dropped ++ kept) =
+        sym (after-is new dropped kept (first.Line n) line_then.first_is refl) in
+        let left : length kept - n ≡ length (after_front_line (dropped ++ kept)) =
+        sym (length-drop n kept) ∙ ap length after in
+        let now : pending_of new (first.Line n) dropped [] kept (length buf) held
+        ≡ found_as before (Some Complete) new.tests = (λ i. record {
+          bytes = dropped ++ kept;
+          kept = length kept;
+          limit = same_limit i;
+          found = true;
+          line = [];
+          scanned = new.tests;
+          unscanned = left i;
+          buffered = length buf;
+          held = held;
+        }) in
+        now ∙ ap (λ first. found_as before first new.tests) (sym line_first)
+
+-- ---- the first line, where it was looked for
+
+-- what is known of it then
+pub found_so : (before : Pending) {after : Pending} {found : Option ClientLine}
+    → after ≡ found_as before (first_client_line before.limit (lines_of before.bytes)) after.scanned
+    → found ≡ (if after.found then first_client_line after.limit (lines_of after.bytes) else None)
+    → found ≡ first_client_line before.limit (lines_of before.bytes)
+found_so before {after} {found} is found_is =
+    by_first (first_client_line before.limit (lines_of before.bytes)) refl
+  where
+    by_first : (first : Option ClientLine)
+        → first_client_line before.limit (lines_of before.bytes) ≡ first → found ≡ first
+    by_first None e = found_is ∙ ap (λ there. if there
+        then first_client_line after.limit (lines_of after.bytes) else None)
+        (ap (λ (p : Pending). p.found) is ∙ ap is_some e)
+    by_first (Some kind) e = found_is ∙ ap (λ there. if there
+        then first_client_line after.limit (lines_of after.bytes) else None)
+        (ap (λ (p : Pending). p.found) is ∙ ap is_some e)
+        ∙ (λ i. first_client_line (is i).limit (lines_of (is i).bytes)) ∙ e
+
+module _ (before middle : Pending) {first : Option ClientLine}
+    (first_is : first ≡ first_client_line before.limit (lines_of before.bytes))
+    (found : middle ≡ found_as before first middle.scanned) where
+  pub none_there : first ≡ None → HasNoLine before middle
+  none_there none =
+      let is : middle ≡ found_as before None middle.scanned = found
+      ∙ ap (λ first. found_as before first middle.scanned) none in record {
+        unended = no_line before.limit before.bytes (sym first_is ∙ none);
+        same = ap (λ (p : Pending). p.bytes) is;
+        all_scanned = ap (λ (p : Pending). p.unscanned) is;
+        kept = ap (λ (p : Pending). p.kept) is;
       }
 
-  pub takes_line : {new : Codec} {n : ℕ} (event : Event) (bytes : Bytes) → Complete n ≡ first_line old pending
-      → new ≡ reset (goes_on old pending) → bytes ≡ take n pending
-      → event_meant event ≡ event_of (outcome bytes)
-      → TakesFrom old new dropped dropped buf start n (Ok (Some event))
-  takes_line {n = n} event bytes found codec front is =
-      let known = found_in (Complete n) found in record {
-        within = omega (arith, known.1.0.within);
-        limit = rw codec (goes_on_keeps old pending).limit;
-        comes = rw (is, front, from_start) record {
-          takes = known.0.takes;
-          place = rw codec refl;
-          unskipped = rw codec refl;
-          shown = λ short. known.0.none_dropped;
-        };
-        dropped_is = rw (codec, known.0.none_dropped) refl;
-      }
+  -- and where it is taken with its event
+  module _ (after : Pending) {kind : ClientLine} (there : first ≡ Some kind)
+      (taken : after ≡ without_line middle) (event : Event)
+      (means : event_meant event ≡ event_for middle.limit (front_line middle.bytes)) where
+    same_event : event_for before.limit (front_line before.bytes) ≡ event_meant event
+    same_event = (λ i. event_for (sym found i).limit (front_line (sym found i).bytes)) ∙ sym means
 
-  pub takes_nothing : {new : Codec} {n : ℕ} (error : AllocError) (bytes : Bytes) → Complete n ≡ first_line old pending
-      → new ≡ goes_on old pending → bytes ≡ take n pending → MayTakeMemory bytes
-      → TakesFrom old new dropped dropped buf start 0 (Err error)
-  takes_nothing {n = n} error bytes found codec front may =
-      let known = (found_in (Complete n) found).0 in
-      let rest : Bytes = drop start buf in record {
-        within = omega arith;
-        limit = same_limit codec;
-        comes = record {
-          none = refl;
-          place = rw codec known.same_place;
-          unskipped = rw codec known.unskipped;
-          none_dropped = known.none_dropped;
-          may = subst (FirstMayRunOut old.limit) (sym (ap lines_of (sym (take-append-drop n rest))
-              ∙ (line_first (take n rest) (drop n rest) known.is_line).0))
-              (known.short, rw (front, from_start) at may);
-        };
-        dropped_is = rw (codec, known.unskipped, known.none_dropped) refl;
-      }
+    is : after ≡ without_line (found_as before first middle.scanned)
+    is = taken ∙ ap without_line found
 
-module _ (old new : Codec) (dropped dropped' buf : Bytes) (start line taken held : ℕ)
-    (result : Result (Option Event) AllocError) {capacity : ℕ}
-    (well : IsDecoder old dropped buf start line held capacity)
-    (step : TakesFrom old new dropped dropped' buf start taken result) where
-  abbrev rest : Bytes
-  rest = drop start buf
+    begins : HasFirst before.limit before.bytes kind
+    begins = has_first before.limit before.bytes kind (sym first_is ∙ there)
 
-  pub decoder-after : (line' : ℕ) → line' ≤ start + taken
-      → IsDecoder new dropped' buf (start + taken) line' held capacity
-  decoder-after line' short = record {
-    start_within = omega (arith, well.start_within, step.within, length-drop start buf);
-    line_within = short;
-    place_within = rw (← drop-drop taken start buf)
-        (within_then old new dropped rest taken result well.place_within step.comes);
-    dropped_well = rw step.dropped_is (dropped_then old new dropped rest taken result step.comes);
-    limited = rw step.limit well.limited;
-    no_more = well.no_more;
-    room = well.room;
-  }
+    abbrev line : Bytes
+    line = front_line before.bytes
 
-  pub takes_next-after : (line' : Bytes)
-      → TakesNext
-      (pending_of old dropped (take line (drop (start - line) buf)) rest (length buf) held)
-      result (pending_of new dropped' line' (drop (start + taken) buf) (length buf) held)
-  takes_next-after line' = rw (← drop-drop taken start buf, step.dropped_is)
-      (takes_next old new dropped rest taken (take line (drop (start - line) buf)) line' (length buf)
-      held result step.comes)
+    pub first_taken : TakesLine before (event_meant event) after
+    first_taken = record {
+      takes = record {
+        line = line;
+        is_line = begins.is_line;
+        whole = begins.whole ∙ ap (λ bytes. line ++ bytes) (sym (ap (λ (p : Pending). p.bytes) is));
+        meaning = sym same_event;
+      };
+      all_kept = ap (λ (p : Pending). p.kept) is ∙ sym (ap (λ (p : Pending). length p.bytes) is);
+      none_scanned =
+          ap (λ (p : Pending). p.unscanned) is ∙ sym (ap (λ (p : Pending). length p.bytes) is);
+    }
 
-  -- the line of the event is the last of the bytes that were taken
-  pub line-after : (n : ℕ) → n ≡ line_length result taken
-      → take n (drop (start + taken - n) buf)
-      ≡ take (line_length result
-      (length (dropped ++ rest) - length (dropped' ++ drop (start + taken) buf)))
-      (dropped ++ rest)
-  line-after n is = rw (is, ← drop-drop taken start buf, step.dropped_is) (shown result
-      ∙ line_taken old new dropped rest taken result step.within step.comes)
-    where
-      shown : (result : Result (Option Event) AllocError)
-          → take (line_length result taken) (drop (start + taken - line_length result taken) buf)
-          ≡ take (line_length result taken) rest
-      shown (Ok None) = refl
-      shown (Err error) = refl
-      shown (Ok (Some event)) = by_length (refuses_length (event_meant event))
-        where
-          by_length : (too_long : Bool)
-              → take (if too_long then 0 else taken)
-              (drop (start + taken - (if too_long then 0 else taken)) buf)
-              ≡ take (if too_long then 0 else taken) rest
-          by_length true = refl
-          by_length false = ap (λ n. take taken (drop n buf)) (omega arith)
-
-  pub runs_out-after : OnErr result (MayRunOut old.limit (dropped ++ rest))
-  runs_out-after = runs_out old new dropped rest taken result step.comes
+    pub line_taken_is : (E : Type 0)
+        → after.line ≡ line_after {E = E} before (Ok (Some event)) after
+    unfolding first_taken
+    line_taken_is E = ap (λ (p : Pending). p.line) is
+        ∙ ap (λ long. if long then [] else line)
+        (sym (refuses_length-exceeds before.limit line) ∙ ap refuses_length same_event)
+        ∙ sym (line_after-taken E event first_taken)

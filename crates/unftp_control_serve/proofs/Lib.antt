@@ -1,7 +1,8 @@
 pub mod HeardLemmas
 mod MappedLemmas
-pub mod DecoderLemmas
 pub mod EventLineLemmas
+pub mod ClientLineLemmas
+pub mod DecoderLemmas
 pub mod SendLemmas
 pub mod EndingLemmas
 mod EngineLemmas

@@ -11,7 +11,7 @@ use Rattle.unftp_control_serve.specs.Endings.{Snapshot, LineMemory, AllAnswered,
 use Rattle.unftp_control_serve.specs.Decoder.{Pending, HasNoLine, MayRunOut, TakesLine}
 use Rattle.unftp_control_serve.specs.declared.error.ServeError.{ServeError}
 use Rattle.unftp_control_serve.specs.declared.error.ServeError.TheVariants.{OutOfMemory}
-use Rattle.unftp_control_serve.proofs.DecoderLemmas.{MayRunOut-taken}
+use Rattle.unftp_control_serve.proofs.ClientLineLemmas.{MayRunOut-taken}
 use Rattle.unftp_control_serve.proofs.EndingLemmas.{AllAnswered-nothing, EventFailed-more, GoneOn, GoneOn-answered, GoneOn-failed, GoneOn-then, HasGiven-silent}
 
 -- in the loop over the lines of some bytes: the first lines were answered, and these are pending

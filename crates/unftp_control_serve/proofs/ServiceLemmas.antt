@@ -187,7 +187,7 @@ module _ {limit : Option ℕ} {S : Type 0} {law : SessionLaw S} {m : Snapshot S}
           no_read_failed = quiet ∙ s.no_read_failed;
         }
 
-        pub Serving-failed : (error : ServeError) → NoRoom error piece n after
+        pub Serving-failed : {lacks : Type 0} (error : ServeError) → NoRoom error lacks n after
             ⊎ ((done : List FtpEvent) × RunFailed engine.limit law n (bytes_with engine piece)
             after error done)
             → ServeEnded limit law m after i k error

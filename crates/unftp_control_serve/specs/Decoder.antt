@@ -1,14 +1,19 @@
--- The pending bytes of a decoder.
-use Rattle.std.specs.Prelude.{◌≡◌, ℕ, ◌+◌, ◌-◌, ◌^◌, ◌≤◌, Bool, false, if◌then◌else◌, List, [], ◌∷◌, ◌++◌, length, min, max, take, drop, Option, Some, None, Result, Ok, Err, MatchResult, MatchOption, IfSome}
+-- The pending bytes of a decoder, and their first line.
+use Rattle.std.specs.Prelude.{◌≡◌, ℕ, ◌+◌, ◌-◌, ◌^◌, ◌≤◌, Bool, true, false, if◌then◌else◌, is_some, List, [], ◌∷◌, ◌++◌, length, min, max, take, drop, Option, Some, None, Result, Ok, Err, MatchResult, MatchOption, IfSome}
 use Rattle.unftp_control_defs.specs.Bytes.{Bytes, LF, Lacks}
 use Rattle.unftp_control_defs.specs.Buffer.{held_after_piece}
 use Rattle.unftp_control_defs.specs.Events.{FtpEvent, exceeds}
-use Rattle.unftp_control_defs.specs.Lines.{lines_of}
+use Rattle.unftp_control_defs.specs.Lines.{IsLine, lines_of}
 use Rattle.unftp_control_codecs.specs.Memory.{MayTakeMemory}
 use Rattle.unftp_control_defs.specs.TakingSteps.{TakesEvent}
 use Rattle.unftp_control_codecs.specs.Codec.{Codec}
 pub use Rattle.unftp_control_codecs.specs.FirstLine.{kept_length}
 use Rattle.unftp_control_codecs.specs.FirstLine.{IsDropped, IsScannedWithin}
+use Rattle.unftp_control_serve.specs.ClientLines.{after_front_line, front_line, unless_too_long}
+use Rattle.unftp_control_serve.specs.declared.decoder.ClientLine.{ClientLine}
+use Rattle.unftp_control_serve.specs.declared.decoder.ClientLine.TheVariants.{Complete, TooLong}
+use Rattle.unftp_control_serve.specs.declared.decoder.First.{First}
+use Rattle.unftp_control_serve.specs.declared.decoder.First.TheVariants as first
 use Rattle.unftp_control_serve.specs.declared.event.Event.{Event}
 use Rattle.unftp_control_serve.specs.EventMeaning.{event_meant, refuses_length}
 
@@ -16,30 +21,16 @@ use Rattle.unftp_control_serve.specs.EventMeaning.{event_meant, refuses_length}
 abbrev pub saturating_u64 : ℕ → ℕ
 saturating_u64 n = min n (2 ^ 64 - 1)
 
--- the bytes that were dropped, after the codec took some and is skipping, or is not
-abbrev pub dropped_after : Bool → Bytes → Bytes → Bytes
-dropped_after skipping dropped bytes = if skipping then dropped ++ bytes else []
-
--- What is so of a decoder: the lines before `start` are taken, and the last of them has so many
--- bytes. There is room for as many bytes as the buffer has held.
-pub record IsDecoder (codec : Codec) (dropped buf : Bytes) (start line held capacity : ℕ)
-    : Type 0 where
-  pub start_within : start ≤ length buf
-  pub line_within : line ≤ start
-  pub place_within : IsScannedWithin codec (drop start buf)
-  pub dropped_well : IsDropped codec dropped
-  pub limited : IfSome codec.limit (λ limit. 1 ≤ limit)
-  pub no_more : length buf ≤ held
-  pub room : held ≤ capacity
-
 pub record Pending : Type 0 where
   -- the bytes after the last line that was taken, and how many of them are kept: those before them
   -- were dropped, since their line is longer than the limit
   pub bytes : Bytes
   pub kept : ℕ
   pub limit : Option ℕ
-  -- the line of the event that was returned last, where nothing was called since that changes the
-  -- decoder; empty where it is too long
+  -- whether their first line was found, and is to be taken
+  pub found : Bool
+  -- the line that was taken last, where nothing was called since that changes the decoder; empty
+  -- where it is too long
   pub line : Bytes
   -- how many bytes were scanned for a line feed since the buffer was made, and how many of those
   -- that are kept have not been
@@ -56,25 +47,12 @@ no_bytes limit = record {
   bytes = [];
   kept = 0;
   limit = limit;
+  found = false;
   line = [];
   scanned = 0;
   unscanned = 0;
   buffered = 0;
   held = 0;
-}
-
--- of these bytes, which the codec scanned up to its scan offset, after those that were dropped and
--- after this line
-abbrev pub pending_of : Codec → Bytes → Bytes → Bytes → ℕ → ℕ → Pending
-pending_of codec dropped line bytes buffered held = record {
-  bytes = dropped ++ bytes;
-  kept = length bytes;
-  limit = codec.limit;
-  line = line;
-  scanned = codec.tests;
-  unscanned = length bytes - codec.place;
-  buffered = buffered;
-  held = held;
 }
 
 -- those that are kept
@@ -98,8 +76,59 @@ pushed pending piece = record pending {
 
 -- The pending bytes have left the buffer too.
 abbrev pub cleared : Pending → Pending
-cleared pending =
-    record pending { bytes = []; kept = 0; line = []; unscanned = 0; buffered = 0 }
+cleared pending = record pending {
+  bytes = [];
+  kept = 0;
+  found = false;
+  line = [];
+  unscanned = 0;
+  buffered = 0;
+}
+
+-- ---- their first line
+
+-- how many bytes are kept where it is this, how many of them are not scanned, and how many the
+-- buffer holds: those of a line that is too long are dropped, also of an incomplete one
+abbrev pub kept_as : Pending → Option ClientLine → ℕ
+kept_as pending None = kept_length pending.limit pending.bytes
+kept_as pending (Some Complete) = pending.kept
+kept_as pending (Some TooLong) = length (after_front_line pending.bytes)
+
+abbrev pub unscanned_as : Pending → Option ClientLine → ℕ
+unscanned_as pending None = 0
+unscanned_as pending (Some line) = length (after_front_line pending.bytes)
+
+abbrev pub buffered_as : Pending → Option ClientLine → ℕ
+buffered_as pending None = kept_length pending.limit pending.bytes
+buffered_as pending (Some line) = pending.buffered
+
+-- It was looked for, and is this; so many bytes are scanned then.
+abbrev pub found_as : Pending → Option ClientLine → ℕ → Pending
+found_as pending first scanned = record pending {
+  kept = kept_as pending first;
+  found = is_some first;
+  line = [];
+  scanned = scanned;
+  unscanned = unscanned_as pending first;
+  buffered = buffered_as pending first;
+}
+
+-- the line that was found, as it is shown
+abbrev pub line_in : Pending → Bytes
+line_in pending =
+    if pending.found then unless_too_long pending.limit (front_line pending.bytes) else []
+
+-- The line that was found is taken.
+abbrev pub without_line : Pending → Pending
+without_line pending = record pending {
+  bytes = after_front_line pending.bytes;
+  kept = length (after_front_line pending.bytes);
+  found = false;
+  line = unless_too_long pending.limit (front_line pending.bytes);
+  unscanned = length (after_front_line pending.bytes);
+}
+
+-- ---- their events
 
 -- There is no line, and all bytes are scanned; none are kept of a line that is too long.
 pub record HasNoLine (before after : Pending) : Type 0 where
@@ -123,11 +152,10 @@ FirstMayRunOut limit (line ∷ lines) = (exceeds limit (length line) ≡ false) 
 abbrev pub MayRunOut : Option ℕ → Bytes → Type 0
 MayRunOut limit bytes = FirstMayRunOut limit (lines_of bytes)
 
--- The same bytes are pending, and as many of them are kept and not scanned yet.
+-- The same bytes are pending, and as many of them are kept.
 pub record StaysPending (before after : Pending) : Type 0 where
   pub same : after.bytes ≡ before.bytes
   pub kept : after.kept ≡ before.kept
-  pub unscanned : after.unscanned ≡ before.unscanned
 
 abbrev pub TakesNext : {E : Type 0} → Pending → Result (Option Event) E → Pending → Type 0
 TakesNext before result after = MatchResult result
@@ -152,3 +180,52 @@ line_length (Err _) taken = 0
 abbrev pub line_after : {E : Type 0} → Pending → Result (Option Event) E → Pending → Bytes
 line_after before result after =
     take (line_length result (length before.bytes - length after.bytes)) before.bytes
+
+-- ---- what a decoder is in the code
+
+abbrev pub is_found : First → Bool
+is_found first.Unknown = false
+is_found (first.Line n) = true
+is_found first.TooLong = true
+
+-- how many of the bytes that are kept were scanned
+abbrev pub scanned_to : Codec → First → ℕ
+scanned_to codec first.Unknown = codec.place
+scanned_to codec (first.Line n) = n
+scanned_to codec first.TooLong = 0
+
+-- of these bytes, after those that were dropped and after this line
+abbrev pub pending_of : Codec → First → Bytes → Bytes → Bytes → ℕ → ℕ → Pending
+pending_of codec first dropped line bytes buffered held = record {
+  bytes = dropped ++ bytes;
+  kept = length bytes;
+  limit = codec.limit;
+  found = is_found first;
+  line = line;
+  scanned = codec.tests;
+  unscanned = length bytes - scanned_to codec first;
+  buffered = buffered;
+  held = held;
+}
+
+-- The first line is not known; or it has so many of the bytes that are kept; or all its bytes were
+-- dropped.
+abbrev pub IsFirst : Codec → Bytes → Bytes → First → Type 0
+IsFirst codec dropped bytes first.Unknown = IsDropped codec dropped
+IsFirst codec dropped bytes (first.Line n) = (dropped ≡ []) × (n ≤ length bytes)
+    × IsLine (take n bytes) × (exceeds codec.limit (length (take n bytes)) ≡ false)
+IsFirst codec dropped bytes first.TooLong = IsLine dropped
+    × (exceeds codec.limit (length dropped) ≡ true) × (codec.skipping ≡ false)
+    × (codec.place ≡ 0)
+
+-- What is so of a decoder: the lines before `start` are taken, and the last of them has so many
+-- bytes. There is room for as many bytes as the buffer has held.
+pub record IsDecoder (codec : Codec) (first : First) (dropped buf : Bytes)
+    (start line held capacity : ℕ) : Type 0 where
+  pub start_within : start ≤ length buf
+  pub line_within : line ≤ start
+  pub place_within : IsScannedWithin codec (drop start buf)
+  pub first_is : IsFirst codec dropped (drop start buf) first
+  pub limited : IfSome codec.limit (λ limit. 1 ≤ limit)
+  pub no_more : length buf ≤ held
+  pub room : held ≤ capacity

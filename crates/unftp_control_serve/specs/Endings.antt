@@ -169,17 +169,17 @@ RunOutcome limit law before input after left result = MatchResult result
     (λ ended. RunAnswered limit law before input after ended left)
     (λ failure. (done : List FtpEvent) × RunFailed limit law before input after failure done)
 
--- There was no memory for a piece, and so nothing was done with it.
-abbrev pub NoRoom : {S : Type 0} → ServeError → Bytes → Snapshot S → Snapshot S → Type 0
-NoRoom failure piece before after =
-    (failure ≡ error.OutOfMemory) × ¬ (piece ≡ []) × (after ≡ before)
+-- There was no memory for a piece, where room for it was lacking, and so nothing was done with it.
+abbrev pub NoRoom : {S : Type 0} → ServeError → Type 0 → Snapshot S → Snapshot S → Type 0
+NoRoom failure lacks before after =
+    (failure ≡ error.OutOfMemory) × lacks × (after ≡ before)
 
--- the same of an input that ends with this piece
-abbrev pub PieceOutcome : {S T : Type 0} → Option ℕ → SessionLaw S → Snapshot S → Bytes → Bytes
+-- the same of an input that ends with a piece
+abbrev pub PieceOutcome : {S T : Type 0} → Option ℕ → SessionLaw S → Snapshot S → Bytes → Type 0
     → Snapshot S → Result T ServeError → Type 0
-PieceOutcome limit law before input piece after result = MatchResult result
+PieceOutcome limit law before input lacks after result = MatchResult result
     (λ _. AllAnswered law before (run_for limit law before.state input) after)
-    (λ failure. NoRoom failure piece before after
+    (λ failure. NoRoom failure lacks before after
     ⊎ ((done : List FtpEvent) × RunFailed limit law before input after failure done))
 
 -- P, where the answer is that the writer failed or took nothing

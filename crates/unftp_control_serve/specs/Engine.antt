@@ -1,5 +1,5 @@
 -- What contracts see of an engine.
-use Rattle.std.specs.Prelude.{◌≡◌, ℕ, ◌≤◌, ◌+◌, ◌-◌, max, Bool, true, false, if◌then◌else◌, [], ◌++◌, length, Option}
+use Rattle.std.specs.Prelude.{◌≡◌, ℕ, ◌≤◌, ◌<◌, ◌+◌, ◌-◌, max, Bool, true, false, if◌then◌else◌, [], ◌++◌, length, Option}
 use Rattle.unftp_control_defs.specs.Bytes.{Bytes}
 use Rattle.unftp_control_defs.specs.Lines.{incomplete_line}
 use Rattle.unftp_control_defs.specs.Run.{SessionLaw, ends_for, unread, after_end}
@@ -52,6 +52,11 @@ IsRunning engine = (engine.failed ≡ false) × (engine.finished ≡ false)
 -- the pending bytes and a piece after them
 abbrev pub bytes_with : EngineState → Bytes → Bytes
 bytes_with engine piece = engine.incomplete ++ piece
+
+-- there is no room for a piece: the buffer would hold more bytes than it ever did
+abbrev pub LacksPieceRoom : EngineState → Bytes → Type 0
+LacksPieceRoom engine piece =
+    (¬ (piece ≡ [])) × (engine.held < engine.buffered + length piece)
 
 -- whether the run of a handler over these ends
 abbrev pub ends_with : {S : Type 0} → EngineState → SessionLaw S → S → Bytes → Bool

@@ -1,5 +1,6 @@
 -- To be read in this order.
 pub mod EventMeaning
+pub mod ClientLines
 pub mod Decoder
 pub mod ErrorTexts
 pub mod Writing

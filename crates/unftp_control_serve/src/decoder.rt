@@ -1,9 +1,12 @@
 //! The pending bytes, and the events of their lines.
-ghost use Rattle.std.specs.Prelude.{◌≡◌, ◌<◌, ◌≤◌, ◌+◌, [], None, Some, IfOk, IfSome, OnOk, OnErr, length};
-ghost use Rattle.unftp_control_defs.specs.Events.{event_of};
+ghost use Rattle.std.specs.Prelude.{◌≡◌, ◌<◌, ◌≤◌, ◌+◌, ◌++◌, [], None, Some, IfOk, IfSome, IsTrue, OnErr, OnOk, drop, if◌then◌else◌, is_some, length, take, true, false};
+ghost use Rattle.unftp_control_defs.specs.Buffer.{IsTakenWithin, pending_in};
+ghost use Rattle.unftp_control_defs.specs.Events.{Refused, event_for, event_of, line_too_long};
+ghost use Rattle.unftp_control_defs.specs.Lines.{IsLine, lines_of};
 ghost use Rattle.unftp_control_defs.specs.Outcome.{outcome};
 ghost use Rattle.unftp_control_codecs.specs.Memory.{MayTakeMemory};
-ghost use Rattle.unftp_control_serve.specs.Decoder.{MayRunOut, TakesNext, buffered_after, cleared, kept_bytes, line_after, no_bytes, pushed, saturating_u64, settled};
+ghost use Rattle.unftp_control_serve.specs.ClientLines.{first_client_line, front_line};
+ghost use Rattle.unftp_control_serve.specs.Decoder.{MayRunOut, TakesNext, buffered_after, cleared, found_as, kept_bytes, line_after, line_in, no_bytes, pushed, saturating_u64, without_line};
 ghost use Rattle.unftp_control_serve.specs.EventMeaning.{event_meant};
 
 use crate::event::Event;
@@ -16,16 +19,40 @@ use unftp_control_defs::buffer::PendingBytes;
 use unftp_control_defs::count::Count;
 use unftp_control_message::reply::error::{ControlChanErrorKind, ParseErrorKind};
 
+/// What a client's next line is.
+#[derive(Debug, Clone, Copy, PartialEq, Eq)]
+pub enum ClientLine {
+    /// One within the limit.
+    Complete,
+    /// One that is longer than the limit: its bytes are not kept.
+    TooLong,
+}
+
+/// What is known of the first line of the pending bytes.
+#[derive(Clone, Copy)]
+pub(crate) enum First {
+    /// Nothing: it was not looked for, or no line is complete.
+    Unknown,
+    /// It has so many bytes.
+    Line(usize),
+    /// It is longer than the limit, and complete.
+    TooLong,
+}
+
 /// Cuts an input that comes in pieces into lines, and returns the event of each: for a server with
 /// an event loop of its own. A piece is pushed, and events are taken until there is none; between
 /// two of them the server does what it likes, and after the last it may clear what is pending.
+///
+/// What reads no commands, as a proxy, takes the lines themselves: `find_line` finds the first,
+/// `found_line` returns its bytes, and `take_line` takes it, as late as the caller likes.
 // There is no line feed between the first pending byte and the codec's scan offset, which counts
 // from there. Where the codec has a limit, it keeps no bytes of a line that is longer: they are
-// `skipped`. The last `line` bytes that were taken are those of the event that was returned last.
+// `skipped`. The last `line` bytes that were taken are those of the line that was taken last.
 #[derive(Drop)]
 pub struct EventDecoder {
     codec: FtpCodec,
     buffer: PendingBytes,
+    first: First,
     line: usize,
     skipped: Skipped,
     held: Count,
@@ -38,11 +65,11 @@ impl Model for EventDecoder {
 
     ghost Value = { Pending };
 
-    ghost view = { λ decoder. pending_of decoder.codec decoder.skipped
+    ghost view = { λ decoder. pending_of decoder.codec decoder.first decoder.skipped
         (take decoder.line (drop (decoder.buffer.start - decoder.line) decoder.buffer.bytes.items))
         (pending_in decoder.buffer) (length decoder.buffer.bytes.items) decoder.held };
 
-    ghost invariant = { λ decoder. IsDecoder decoder.codec decoder.skipped
+    ghost invariant = { λ decoder. IsDecoder decoder.codec decoder.first decoder.skipped
         decoder.buffer.bytes.items decoder.buffer.start decoder.line decoder.held
         (vec_capacity decoder.buffer.bytes) };
 }
@@ -74,6 +101,7 @@ impl EventDecoder {
         EventDecoder {
             codec: FtpCodec::resume(limit, 0, false),
             buffer: PendingBytes::new(alloc),
+            first: First::Unknown,
             line: 0,
             skipped: Skipped::none(),
             held: Count::new(),
@@ -89,9 +117,9 @@ impl EventDecoder {
         self.buffer.pending()
     }
 
-    /// The bytes of the line whose event the last call of `next_event` returned, its line feed
-    /// among them; empty where the line is too long, where that call returned no event, and after
-    /// `push` or `clear`.
+    /// The bytes of the line that was taken last, its line feed among them: that whose event the
+    /// last call of `next_event` returned. They are empty where the line is too long, where that
+    /// call returned no event, and after `push`, `find_line` or `clear`.
     pub fn line(&self) -> &[u8]
         ensures { result.now ≡ self.now.line }
     {
@@ -138,60 +166,155 @@ impl EventDecoder {
         Ok(())
     }
 
-    /// Takes the first line of the pending bytes, and returns its event (RFC 959, section 5.3), or
-    /// `None` where no line is complete. When out of memory, the line stays, and the next call
-    /// finds it again; it never is for a line that is too long, or whose command takes no value.
+    /// Finds the first line of the pending bytes, and leaves it there; or `None` where none is
+    /// complete. No byte is scanned twice, however often it is called, and no memory is taken.
     ///
     /// Where it returns `None`, its buffer holds the pending bytes only: so with a limit, where all
-    /// events are taken before the next piece is pushed, it never holds more than the limit and one
+    /// lines are taken before the next piece is pushed, it never holds more than the limit and one
     /// piece.
+    #[inline(always)]
+    pub fn find_line(&mut self) -> Option<ClientLine>
+        ensures line { result ≡ first_client_line self.old.limit (lines_of self.old.bytes) }
+        ensures found { self.new ≡ found_as self.old result self.new.scanned }
+        ensures scanned {
+            self.new.scanned + self.new.unscanned ≡ self.old.scanned + self.old.unscanned }
+        ensures never_fewer { self.old.scanned ≤ self.new.scanned }
+        ensures buffered { self.new.buffered ≤ self.old.buffered }
+    {
+        if self.is_found() {
+            self.line = 0;
+        } else {
+            self.search();
+        }
+        self.found_kind()
+    }
+
+    /// Whether the first line was found, and is not taken yet.
+    #[inline(always)]
+    pub fn is_found(&self) -> bool
+        ensures found { result ≡ self.now.found }
+        ensures line { IsTrue result → IsLine (front_line self.now.bytes) }
+    {
+        match self.first {
+            First::Unknown => false,
+            First::Line(_) => true,
+            First::TooLong => true,
+        }
+    }
+
+    /// What the line is that was found, if one was.
+    #[inline(always)]
+    fn found_kind(&self) -> Option<ClientLine>
+        ensures kind { result ≡ (if self.now.found
+            then first_client_line self.now.limit (lines_of self.now.bytes) else None) }
+        ensures found { self.now.found ≡ is_some result }
+    {
+        match self.first {
+            First::Unknown => None,
+            First::Line(_) => Some(ClientLine::Complete),
+            First::TooLong => Some(ClientLine::TooLong),
+        }
+    }
+
+    /// Looks for the first line.
+    #[inline(always)]
+    fn search(&mut self)
+        requires { self.old.found ≡ false }
+        ensures found { self.new ≡ found_as self.old
+            (first_client_line self.old.limit (lines_of self.old.bytes)) self.new.scanned }
+        ensures scanned {
+            self.new.scanned + self.new.unscanned ≡ self.old.scanned + self.old.unscanned }
+        ensures never_fewer { self.old.scanned ≤ self.new.scanned }
+        ensures buffered { self.new.buffered ≤ self.old.buffered }
+    {
+        self.line = 0;
+        match self.codec.find_line(self.buffer.pending()) {
+            FirstLine::Incomplete { dropped } => {
+                drop_front(&mut self.buffer, &mut self.skipped, dropped);
+                self.buffer.settle();
+            }
+            FirstLine::TooLong { length } => {
+                drop_front(&mut self.buffer, &mut self.skipped, length);
+                self.first = First::TooLong;
+            }
+            FirstLine::Complete { length } => self.first = First::Line(length),
+        }
+    }
+
+    /// The bytes of the line that was found and is not taken yet, its line feed among them; empty
+    /// where it is too long, and where none was found.
+    #[inline(always)]
+    pub fn found_line(&self) -> &[u8]
+        ensures { result.now ≡ line_in self.now }
+    {
+        match self.first {
+            First::Line(length) => self.buffer.pending().split_at(length).0,
+            First::TooLong => &[],
+            First::Unknown => &[],
+        }
+    }
+
+    /// The event of the line that was found and is not taken yet (RFC 959, section 5.3). It may be
+    /// out of memory, but not for a line that is too long, or whose command takes no value.
+    #[inline(always)]
+    pub fn found_event(&self) -> Result<Event, AllocError>
+        requires { IsTrue self.now.found }
+        ensures ok { IfOk result (λ event.
+            event_meant event ≡ event_for self.now.limit (front_line self.now.bytes)) }
+        ensures err { OnErr result (MayRunOut self.now.limit self.now.bytes) }
+    {
+        match self.first {
+            First::Line(_) => event_of(*self.buffer.bytes.allocator(), self.found_line()),
+            First::TooLong => Ok(too_long()),
+            First::Unknown => Ok(too_long()),
+        }
+    }
+
+    /// Takes the line that was found: `line` returns its bytes.
+    #[inline(always)]
+    pub fn take_line(&mut self)
+        requires { IsTrue self.old.found }
+        ensures { self.new ≡ without_line self.old }
+    {
+        match self.first {
+            First::Line(length) => {
+                self.codec.reset();
+                self.buffer.start += length;
+                self.line = length;
+            }
+            First::TooLong => {
+                self.skipped = Skipped::none();
+                self.line = 0;
+            }
+            First::Unknown => {}
+        }
+        self.first = First::Unknown;
+    }
+
+    /// Takes the first line of the pending bytes, and returns its event (RFC 959, section 5.3), or
+    /// `None` where no line is complete, as `find_line` does. When out of memory, the line stays,
+    /// and the next call finds it again; it never is for a line that is too long, or whose command
+    /// takes no value.
     pub fn next_event(&mut self) -> Result<Option<Event>, AllocError>
         ensures takes_next { TakesNext self.old result self.new }
         ensures line { self.new.line ≡ line_after self.old result self.new }
         ensures buffered { self.new.buffered ≡ buffered_after self.old result self.new }
         ensures limit { self.new.limit ≡ self.old.limit }
         ensures held { self.new.held ≡ self.old.held }
-        ensures scanned { OnOk result
-            (self.new.scanned + self.new.unscanned ≡ self.old.scanned + self.old.unscanned) }
-        ensures no_memory { OnErr result
-            (self.new.scanned ≤ self.old.scanned + self.old.unscanned) }
+        ensures found { OnOk result (self.new.found ≡ false) }
+        // no byte is scanned twice, also where the line stays
+        ensures scanned {
+            self.new.scanned + self.new.unscanned ≡ self.old.scanned + self.old.unscanned }
         // out of memory is returned only for a complete line that may take some
         ensures may_run_out { OnErr result (MayRunOut self.old.limit self.old.bytes) }
         ensures never_fewer { self.old.scanned ≤ self.new.scanned }
     {
-        self.line = 0;
-        let alloc = *self.buffer.bytes.allocator();
-        let pending = self.buffer.pending();
-        match self.codec.find_line(pending) {
-            FirstLine::Incomplete { dropped } => {
-                let (front, _) = pending.split_at(dropped);
-                self.skipped.go_on(self.codec.skipping(), front);
-                self.buffer.start += dropped;
-                self.settle();
-                Ok(None)
-            }
-            FirstLine::TooLong { length } => {
-                self.skipped = Skipped::none();
-                self.buffer.start += length;
-                Ok(Some(Event::Refused(ControlChanErrorKind::LineTooLong.into())))
-            }
-            FirstLine::Complete { length } => {
-                let (line, _) = pending.split_at(length);
-                let event = event_of(alloc, line)?;
-                self.codec.reset();
-                self.buffer.start += length;
-                self.line = length;
-                Ok(Some(event))
-            }
-        }
-    }
-
-    /// Removes the lines that were taken: the pending bytes move to the start of the buffer.
-    fn settle(&mut self)
-        ensures { self.new ≡ settled self.old }
-    {
-        self.buffer.settle();
-        self.line = 0;
+        let Some(_) = self.find_line() else {
+            return Ok(None);
+        };
+        let event = self.found_event()?;
+        self.take_line();
+        Ok(Some(event))
     }
 
     /// Drops all pending bytes, as a server does where the session ends, or before TLS begins: no
@@ -202,9 +325,32 @@ impl EventDecoder {
     {
         self.codec.reset();
         self.buffer.clear();
+        self.first = First::Unknown;
         self.line = 0;
         self.skipped = Skipped::none();
     }
+}
+
+/// Removes so many bytes from the start of the buffer: they are dropped.
+#[inline(always)]
+fn drop_front(buffer: &mut PendingBytes, skipped: &mut Skipped, count: usize)
+    requires within { IsTakenWithin buffer.old }
+    requires count { count ≤ length (pending_in buffer.old) }
+    ensures buffer { pending_in buffer.new ≡ drop count (pending_in buffer.old) }
+    ensures bytes { buffer.new.bytes ≡ buffer.old.bytes }
+    ensures within { IsTakenWithin buffer.new }
+    ensures skipped { skipped.new ≡ skipped.old ++ take count (pending_in buffer.old) }
+{
+    let (front, _) = buffer.pending().split_at(count);
+    skipped.add(front);
+    buffer.start += count;
+}
+
+/// The event of a line that is too long.
+fn too_long() -> Event
+    ensures { event_meant result ≡ Refused line_too_long }
+{
+    Event::Refused(ControlChanErrorKind::LineTooLong.into())
 }
 
 /// The event of a line that is not too long; or out of memory.

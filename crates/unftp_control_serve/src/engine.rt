@@ -6,7 +6,7 @@ ghost use Rattle.unftp_control_serve.specs.Endings.{EventOutcome, OnMemory, OnWr
 ghost use Rattle.unftp_control_serve.specs.Decoder.{kept_length};
 ghost use Rattle.unftp_control_serve.specs.EventMeaning.{event_meant};
 ghost use Rattle.unftp_control_serve.specs.Writing.{Begins, SendsReply};
-ghost use Rattle.unftp_control_serve.specs.Engine.{FailedAfter, IsRunning, bytes_with, fed, fresh, more_left};
+ghost use Rattle.unftp_control_serve.specs.Engine.{FailedAfter, IsRunning, LacksPieceRoom, bytes_with, fed, fresh, more_left};
 
 use crate::decoder::EventDecoder;
 use crate::error::ServeError;
@@ -244,7 +244,7 @@ impl Engine {
         ensures outcome { IsRunning self.old → (said : List H.Said)
             → Begins said (H.heard handler.new) → PieceOutcome self.old.limit (H.law said)
             (snapshot_with H.state H.failures K.state handler.old output.old)
-            (bytes_with self.old piece.now) piece.now
+            (bytes_with self.old piece.now) (LacksPieceRoom self.old piece.now)
             (snapshot_with H.state H.failures K.state handler.new output.new) result }
         ensures cuts { OnWrite result K.cuts }
         // What such an engine is then; a limit bounds what the buffer has held.
@@ -284,7 +284,7 @@ impl Engine {
         ensures outcome { (said : List H.Said)
             → Begins said (H.heard handler.new) → PieceOutcome self.old.limit (H.law said)
             (snapshot_with H.state H.failures K.state handler.old output.old)
-            (bytes_with self.old piece.now) piece.now
+            (bytes_with self.old piece.now) (LacksPieceRoom self.old piece.now)
             (snapshot_with H.state H.failures K.state handler.new output.new) result }
         ensures cuts { OnWrite result K.cuts }
         ensures fed { MatchResult result

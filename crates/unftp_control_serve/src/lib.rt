@@ -14,7 +14,7 @@ mod service;
 mod session;
 mod skipped;
 
-pub use decoder::EventDecoder;
+pub use decoder::{ClientLine, EventDecoder};
 pub use engine::Engine;
 pub use error::ServeError;
 pub use event::Event;

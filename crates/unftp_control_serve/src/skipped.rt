@@ -1,7 +1,6 @@
 //! The bytes of a line that were dropped, since it is longer than the limit.
-ghost use Rattle.std.specs.Prelude.{◌≡◌, [], length};
+ghost use Rattle.std.specs.Prelude.{◌≡◌, ◌++◌, [], length};
 ghost use Rattle.unftp_control_serve.specs.Decoder.{saturating_u64};
-ghost use Rattle.unftp_control_serve.specs.Decoder.{dropped_after};
 
 use std::marker::Model;
 use unftp_control_defs::count::Trace;
@@ -43,18 +42,12 @@ impl Skipped {
         self.count
     }
 
-    /// The codec took these bytes: while it is skipping, they are dropped; else the line before was
-    /// its last, and none are dropped of the next.
+    /// These bytes are dropped after those before.
     #[inline(always)]
-    pub(crate) fn go_on(&mut self, skipping: bool, taken: &[u8])
-        ensures { self.new ≡ dropped_after skipping self.old taken.now }
+    pub(crate) fn add(&mut self, bytes: &[u8])
+        ensures { self.new ≡ self.old ++ bytes.now }
     {
-        if skipping {
-            self.count = self.count.saturating_add(taken.len() as u64);
-            self.bytes.extend(taken);
-        } else {
-            self.count = 0;
-            self.bytes.reset();
-        }
+        self.count = self.count.saturating_add(bytes.len() as u64);
+        self.bytes.extend(bytes);
     }
 }

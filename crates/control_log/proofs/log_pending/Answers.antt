@@ -1,6 +1,6 @@
 use Rattle.std.proofs.Common.{[], refl, ◌∙◌}
 use Rattle.std.proofs.lemmas.Result.{err_from_is_err_and}
-use Rattle.unftp_control_serve.proofs.DecoderLemmas.{MayRunOut-taken}
+use Rattle.unftp_control_serve.proofs.ClientLineLemmas.{MayRunOut-taken}
 use Rattle.control_log.proofs.LogLemmas.{Halfway-all, Halfway-end, Halfway-next, Halfway-stops, Sent-nothing, entry_is}
 use Rattle.control_log.proofs.log_pending.Goals as goal
 

@@ -1,6 +1,6 @@
 use Rattle.std.proofs.Common.{◌++◌, ◌∙◌, ap, append_assoc, rules, take}
 use Rattle.transferring.proofs.TransferLemmas.{cut_off, heard_more, stored_all, stored_more, stored_part}
-use Rattle.unftp_control_serve.proofs.DecoderLemmas.{on_err}
+use Rattle.unftp_control_defs.proofs.AppendLemmas.{on_err}
 use Rattle.transferring.proofs.transfer.receive.Goals as goal
 
 pub returns-in-Ok-eq0-clause-heard : goal.returns-in-Ok-eq0-clause-heard

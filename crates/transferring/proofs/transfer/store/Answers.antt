@@ -1,5 +1,5 @@
 use Rattle.std.proofs.Common.{inl, inr, length, take, refl, ap, ◌∙◌, arith}
-use Rattle.unftp_control_serve.proofs.DecoderLemmas.{on_err}
+use Rattle.unftp_control_defs.proofs.AppendLemmas.{on_err}
 use Rattle.transferring.proofs.transfer.store.Goals as goal
 
 pub returns-in_err-extend_from_slice-clause-ran_out :

@@ -1,12 +1,12 @@
 //! Snapshots worked out by hand: what the definitions of the clauses of `feed` say of them.
-ghost use Rattle.std.specs.Prelude.{◌≡◌, ◌+◌, ◌≤◌, ℕ, [], ◌∷◌, None, Some, Ok, Err, codes};
+ghost use Rattle.std.specs.Prelude.{⊤, ◌≡◌, ◌+◌, ◌≤◌, ℕ, [], ◌∷◌, None, Some, Ok, Err, codes};
 ghost use Rattle.std.specs.Io.KnownBytes.{Appends};
 ghost use Rattle.unftp_control_defs.specs.Bytes.{Bytes};
 ghost use Rattle.unftp_control_defs.specs.Events.{Fault, Command};
 ghost use Rattle.unftp_control_defs.specs.FtpCommand.{User};
 ghost use Rattle.unftp_control_defs.specs.FtpReply.{CodeAndMsg};
 ghost use Rattle.unftp_control_serve.specs.Endings.{Snapshot, Finished, Write, Handler, LineMemory, ReplyMemory, IsCauseOf, AllAnswered, EventFailed, RunEnded, RunFailed, NoRoom, OnWrite};
-ghost use Rattle.unftp_control_serve.specs.Engine.{fed};
+ghost use Rattle.unftp_control_serve.specs.Engine.{LacksPieceRoom, fed};
 ghost use Rattle.unftp_control.specs.Snapshots.{counter, noop, silent, snapshot, two_replies, waiting};
 ghost use Rattle.unftp_control_serve.specs.Writing.{Begins, Flushed, OneFlush, OneWrite, OutputState, Sends};
 
@@ -112,10 +112,12 @@ pub fn an_engine_keeps_this()
 
 /// There is no lack of memory for no piece, and no other error means one.
 pub fn an_engine_fails()
-    ensures no_piece { (before after : Snapshot ℕ) → NoRoom ServeError.OutOfMemory [] before after
-        → ⊥ }
+    ensures no_piece { ¬ LacksPieceRoom (waiting (Some 5)) [] }
+    ensures lacks { LacksPieceRoom (record (waiting (Some 5)) { held = 3; buffered = 2 }) (codes "OP") }
+    ensures has_room {
+        ¬ LacksPieceRoom (record (waiting (Some 5)) { held = 4; buffered = 2 }) (codes "OP") }
     ensures other_error { (before after : Snapshot ℕ)
-        → NoRoom ServeError.WriteZero (codes "OP") before after → ⊥ }
+        → NoRoom ServeError.WriteZero ⊤ before after → ⊥ }
 {}
 
 /// Which errors mean which cause.

@@ -1,6 +1,6 @@
 use Rattle.std.proofs.Common.{◌≡◌, arith, OnErr, OnOk, ap, length, rules, subst, sym, take, ◌∙◌}
 use Rattle.unftp_control_defs.specs.Bytes.{Bytes}
-use Rattle.unftp_control_proxy.specs.ClientLines.{line_in}
+use Rattle.unftp_control_serve.specs.Decoder.{line_in}
 use Rattle.unftp_control_proxy.specs.Filtering.{Becomes, IsLineStep, LineStep, fate_by, step_for}
 use Rattle.unftp_control_proxy.proofs.FilterLemmas.{step_after, step_longer}
 use Rattle.unftp_control_proxy.proofs.driver.decide_line.Goals as goal

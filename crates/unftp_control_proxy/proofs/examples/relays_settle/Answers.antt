@@ -4,7 +4,7 @@ use Rattle.std.proofs.lemmas.Option.{none-some}
 use Rattle.unftp_control_defs.specs.Lines.{lines_of}
 use Rattle.unftp_control_client.specs.Dialogue.{commands_owed, owes_reply}
 use Rattle.unftp_control_client.specs.declared.dialogue.Dialogue.{Dialogue}
-use Rattle.unftp_control_proxy.specs.ClientLines.{first_client_line}
+use Rattle.unftp_control_serve.specs.ClientLines.{first_client_line}
 use Rattle.unftp_control_proxy.proofs.examples.relays_settle.Goals as goal
 
 pub returns : goal.returns

@@ -1,5 +1,6 @@
 use Rattle.unftp_control_proxy.specs.ProxyCalls.{AnsweredBy, SentAs}
-use Rattle.unftp_control_proxy.proofs.CallLemmas.{decides, forwards, line_in-is, some_line}
+use Rattle.unftp_control_proxy.proofs.CallLemmas.{decides, forwards, line_in-is}
+use Rattle.unftp_control_serve.proofs.ClientLineLemmas.{some_line}
 use Rattle.unftp_control_proxy.proofs.steps.lines_are_traffic.Goals as goal
 
 pub returns : goal.returns

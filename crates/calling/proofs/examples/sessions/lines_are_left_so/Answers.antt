@@ -30,7 +30,7 @@ returns c =
         event = Command Noop;
         following = codes "NO";
         is_first = noop;
-        line = inl record { same = refl; kept = refl; unscanned = refl };
+        line = inl record { same = refl; kept = refl };
         same = refl;
       };
       taken = record {

@@ -1,6 +1,7 @@
 use Rattle.std.proofs.Common.{ap, inr}
 use Rattle.unftp_control_proxy.specs.Relaying.{relay_state_of}
-use Rattle.unftp_control_proxy.proofs.RelayLemmas.{all_then, on_err, part_then, relays_from_client}
+use Rattle.unftp_control_proxy.proofs.RelayLemmas.{all_then, part_then, relays_from_client}
+use Rattle.unftp_control_defs.proofs.AppendLemmas.{on_err}
 use Rattle.unftp_control_proxy.proofs.relay.Relay.from_client.Goals as goal
 
 pub returns-in_err-from_client-clause-err : goal.returns-in_err-from_client-clause-err
@@ -15,12 +16,12 @@ pub returns-clause-ok : goal.returns-clause-ok
 returns-clause-ok g c = all_then g.F.Filter.law c.pass_all.result
     (relay_state_of g.F.Filter.state c.pass_all.new.self)
     (relays_from_client g.F.Filter.law (relay_state_of g.F.Filter.state c.args.self.now)
-    c.from_client.new.self c.args.piece.now c.from_client.new.self.client.held c.in_ok-from_client.ensures.ok)
+    c.from_client.new.self c.args.piece.now c.in_ok-from_client.ensures.ok)
     c.pass_all.ensures.ok
 
 pub returns-clause-err : goal.returns-clause-err
 returns-clause-err g c = part_then g.F.Filter.law c.pass_all.result
     (relay_state_of g.F.Filter.state c.pass_all.new.self)
     (relays_from_client g.F.Filter.law (relay_state_of g.F.Filter.state c.args.self.now)
-    c.from_client.new.self c.args.piece.now c.from_client.new.self.client.held c.in_ok-from_client.ensures.ok)
+    c.from_client.new.self c.args.piece.now c.in_ok-from_client.ensures.ok)
     c.pass_all.ensures.err

@@ -1,6 +1,7 @@
 use Rattle.std.proofs.Common.{ap, inr}
 use Rattle.unftp_control_proxy.specs.Relaying.{relay_state_of}
-use Rattle.unftp_control_proxy.proofs.RelayLemmas.{all_then, on_err, part_then, relays_from_server}
+use Rattle.unftp_control_proxy.proofs.RelayLemmas.{all_then, part_then, relays_from_server}
+use Rattle.unftp_control_defs.proofs.AppendLemmas.{on_err}
 use Rattle.unftp_control_proxy.proofs.relay.Relay.from_server.Goals as goal
 
 pub returns-in_err-from_server-clause-err : goal.returns-in_err-from_server-clause-err

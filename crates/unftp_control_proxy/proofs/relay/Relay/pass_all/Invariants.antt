@@ -6,7 +6,7 @@ abbrev pub invariant-loop-end : goal.invariant-loop-end
 invariant-loop-end g l = record {
   relays : Relays g.F.Filter.law [] [] (relay_state_of g.F.Filter.state l.fn.self)
       (relay_state_of g.F.Filter.state l.self);
-  held : l.self.proxy.client.held ≤ l.fn.self.proxy.client.held;
+  held : l.self.proxy.client.buffered ≤ l.fn.self.proxy.client.buffered;
 }
 
 abbrev pub decreases-loop-end : goal.decreases-loop-end

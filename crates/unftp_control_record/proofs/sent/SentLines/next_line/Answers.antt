@@ -1,24 +1,30 @@
-use Rattle.std.proofs.Common.{ap, refl, sym, ◌∙◌}
-use Rattle.unftp_control_record.specs.ToCome.{taken_first}
+use Rattle.std.proofs.Common.{◌≡◌, true, refl, rules}
 use Rattle.std.proofs.lemmas.Result.{err_from_is_err_and}
-use Rattle.unftp_control_record.proofs.SentLemmas.{taken-next, takes-line}
+use Rattle.unftp_control_record.proofs.SentLemmas.{line_logged, next_found, none_found, same_found}
 use Rattle.unftp_control_record.proofs.sent.SentLines.next_line.Goals as goal
+
+pub returns-in_default-clause-takes : goal.returns-in_default-clause-takes
+returns-in_default-clause-takes c =
+    let greeted : c.args.self.now.is_greeted ≡ true = search rules in
+    let next = c.find_line.ensures in (
+      same_found c.args.self.now greeted next.line next.found,
+      greeted,
+      none_found c.args.self.now greeted next.line next.found c.in_default.is,
+    )
 
 pub returns-clause-takes : goal.returns-clause-takes
 returns-clause-takes c =
-    let middle = c.take_first.new.self in
-    takes-line (Unit {0}) c.args.self.now middle
-    (record { alloc = middle.alloc; decoder = middle.decoder; first = c.pop_first.new.first })
-    c.log_first.new.first c.pop_first.result c.take_first.ensures.same
-    c.in_ok-take_first.ensures.none
-    (λ other. ap (λ line. taken_first line middle.first) (sym c.line.ensures)
-    ∙ c.in_ok-log_first.ensures.same other)
-    c.pop_first.ensures.first c.pop_first.ensures.after refl
+    let greeted : c.args.self.now.is_greeted ≡ true = search rules in
+    let next = c.find_line.ensures in
+    line_logged c.args.self.now greeted next.line next.found c.in-Some.is c.take_line.new.self
+    c.in_ok-text.text.items c.take_line.ensures c.in_ok-text.ensures
 
-pub returns-in_err-log_first-clause-takes : goal.returns-in_err-log_first-clause-takes
-returns-in_err-log_first-clause-takes c =
-    let error = err_from_is_err_and c.from_residual-in_err-log_first.result
-    c.from_residual-in_err-log_first.ensures.1 in
-    let lines = c.take_first.new.self in
-    rw (error.1, c.in_err-log_first.ensures.err)
-    (c.take_first.ensures.same, taken-next lines c.in_err-log_first.ensures.taken)
+pub returns-in_err-text-clause-takes : goal.returns-in_err-text-clause-takes
+returns-in_err-text-clause-takes c =
+    let greeted : c.args.self.now.is_greeted ≡ true = search rules in
+    let next = c.find_line.ensures in
+    let error = err_from_is_err_and c.from_residual.result c.from_residual.ensures.1 in
+    rw error.1 (
+      same_found c.args.self.now greeted next.line next.found,
+      next_found c.args.self.now greeted next.line next.found c.in-Some.is,
+    )
