@@ -2,9 +2,8 @@
 ghost use Rattle.std.specs.Prelude.{ℕ, List, IfErr, IfOk, OnOk, Some};
 ghost use Rattle.calling.specs.Sessions.{snapshot};
 ghost use Rattle.unftp_control.specs.Bytes.{Bytes};
-ghost use Rattle.unftp_control.specs.Gate.{Gated, closed, gated_law};
+ghost use Rattle.unftp_control.specs.Gate.{Gated, closed, gated_law, limited_to};
 ghost use Rattle.unftp_control.specs.Input.{HasRead, input_state_of};
-ghost use Rattle.unftp_control.specs.LoginLimit.{Limited, limited_law, limited_to};
 ghost use Rattle.unftp_control.specs.Promises.{MembersAlone, SendsPlainExchanges};
 ghost use Rattle.unftp_control.specs.Service.{ServeEnded, Serves};
 ghost use Rattle.unftp_control.specs.Writing.{HasWritten, output_state_of};
@@ -23,10 +22,10 @@ pub fn serve_members<R: Read, W: Write, A: Accounts + Drop, H: Session + Drop>(
     accounts: A,
     handler: H,
 ) -> Result<Served, ServeError>
-    // exactly the replies of limit, gate and handler to the lines that were read are written, by
+    // exactly the replies of gate and handler to the lines that were read are written, by
     // all that the handler has heard
-    ensures serves { (heard : List H.Said) × (state : Limited (Gated H.State)) × (failures : ℕ)
-        × IfOk result (Serves (Some 4096) (limited_law (gated_law (H.law heard)))
+    ensures serves { (heard : List H.Said) × (state : Gated H.State) × (failures : ℕ)
+        × IfOk result (Serves (Some 4096) (gated_law (H.law heard))
         (snapshot (limited_to 3 (closed (A.accepts accounts) (H.state handler)))
         (H.failures handler) (output_state_of W.contents writer.old))
         (snapshot state failures (output_state_of W.contents writer.new))
@@ -41,13 +40,13 @@ pub fn serve_members<R: Read, W: Write, A: Accounts + Drop, H: Session + Drop>(
         written
         × MembersAlone (Some 4096) (A.accepts accounts) read written) }
     // and all that `serve_with_limit` says at each error, for some last state
-    ensures err { (heard : List H.Said) × (state : Limited (Gated H.State)) × (failures : ℕ)
-        × IfErr result (ServeEnded (Some 4096) (limited_law (gated_law (H.law heard)))
+    ensures err { (heard : List H.Said) × (state : Gated H.State) × (failures : ℕ)
+        × IfErr result (ServeEnded (Some 4096) (gated_law (H.law heard))
         (snapshot (limited_to 3 (closed (A.accepts accounts) (H.state handler)))
         (H.failures handler) (output_state_of W.contents writer.old))
         (snapshot state failures (output_state_of W.contents writer.new))
         (input_state_of R.remaining reader.old) (input_state_of R.remaining reader.new)) }
 {
-    let gate = Gate::new(accounts, handler);
-    serve_with_limit(alloc, 4096, reader, writer, &mut LoginLimit::new(3, gate))
+    let mut gate = Gate::new(accounts, handler).with_limit(LoginLimit::new(3));
+    serve_with_limit(alloc, 4096, reader, writer, &mut gate)
 }

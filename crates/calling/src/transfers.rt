@@ -4,9 +4,8 @@ ghost use Rattle.calling.specs.Sessions.{snapshot};
 ghost use Rattle.transferring.specs.Answers.{DataAnswer};
 ghost use Rattle.transferring.specs.Transfers.{TransferState, at_start, transfers_law};
 ghost use Rattle.unftp_control.specs.Bytes.{Bytes};
-ghost use Rattle.unftp_control.specs.Gate.{Gated, closed, gated_law};
+ghost use Rattle.unftp_control.specs.Gate.{Gated, closed, gated_law, limited_to};
 ghost use Rattle.unftp_control.specs.Input.{HasRead, input_state_of};
-ghost use Rattle.unftp_control.specs.LoginLimit.{Limited, limited_law, limited_to};
 ghost use Rattle.unftp_control.specs.Promises.{MembersAlone};
 ghost use Rattle.unftp_control.specs.Service.{ServeEnded, Serves};
 ghost use Rattle.unftp_control.specs.Writing.{HasWritten, output_state_of};
@@ -29,9 +28,9 @@ pub fn serve_file<R: Read, W: Write, A: Accounts + Drop, D: DataConnection + Dro
 ) -> Result<Served, ServeError>
     // exactly the replies to the lines that were read are written, by what the data connection
     // answered
-    ensures serves { (answers : List DataAnswer) × (state : Limited (Gated TransferState))
+    ensures serves { (answers : List DataAnswer) × (state : Gated TransferState)
         × (failures : ℕ) × IfOk result
-        (Serves (Some 4096) (limited_law (gated_law (transfers_law answers)))
+        (Serves (Some 4096) (gated_law (transfers_law answers))
         (snapshot (limited_to 3 (closed (A.accepts accounts)
         (at_start (D.answers connection) file.items))) 0 (output_state_of W.contents writer.old))
         (snapshot state failures (output_state_of W.contents writer.new))
@@ -43,9 +42,9 @@ pub fn serve_file<R: Read, W: Write, A: Accounts + Drop, D: DataConnection + Dro
         × HasWritten (output_state_of W.contents writer.old) (output_state_of W.contents writer.new)
         written
         × MembersAlone (Some 4096) (A.accepts accounts) read written) }
-    ensures err { (answers : List DataAnswer) × (state : Limited (Gated TransferState))
+    ensures err { (answers : List DataAnswer) × (state : Gated TransferState)
         × (failures : ℕ) × IfErr result
-        (ServeEnded (Some 4096) (limited_law (gated_law (transfers_law answers)))
+        (ServeEnded (Some 4096) (gated_law (transfers_law answers))
         (snapshot (limited_to 3 (closed (A.accepts accounts)
         (at_start (D.answers connection) file.items))) 0 (output_state_of W.contents writer.old))
         (snapshot state failures (output_state_of W.contents writer.new))

@@ -11,7 +11,6 @@ ghost use Rattle.unftp_control_defs.specs.Bytes.{Bytes};
 ghost use Rattle.unftp_control_defs.specs.Input.{HasRead, input_state_of};
 ghost use Rattle.unftp_control_login.specs.Promises.{MembersAlone};
 ghost use Rattle.unftp_control_login.specs.Gate.{Gated};
-ghost use Rattle.unftp_control_login.specs.LoginLimit.{Limited};
 ghost use Rattle.unftp_control_serve.specs.Service.{ServeEnded, Serves};
 ghost use Rattle.unftp_control_serve.specs.Writing.{HasWritten, output_state_of};
 ghost use Rattle.login_demo.specs.declared.session.Session.{Session};
@@ -64,7 +63,7 @@ pub fn run<R: Read, W: Write, A: Accounts + Drop>(
 ) -> Result<Served, ServeError>
     // At Ok exactly the replies to the lines that the reads gave were written, of any reader and
     // any writer, for some last state of the session and count of its failures.
-    ensures serves { (session : Limited (Gated Session)) × (failures : ℕ) × IfOk result
+    ensures serves { (session : Gated Session) × (failures : ℕ) × IfOk result
         (Serves (Some LIMIT) guarded_law
         (first_snapshot (A.accepts accounts) (output_state_of W.contents writer.old))
         (snapshot session failures (output_state_of W.contents writer.new))
@@ -81,20 +80,15 @@ pub fn run<R: Read, W: Write, A: Accounts + Drop>(
     // At Ok the buffer has held at most the limit and one piece.
     ensures bound { IfOk result (λ served. served.held ≤ LIMIT + 4096) }
     // What is so at each error.
-    ensures err { (session : Limited (Gated Session)) × (failures : ℕ) × IfErr result
+    ensures err { (session : Gated Session) × (failures : ℕ) × IfErr result
         (ServeEnded (Some LIMIT) guarded_law
         (first_snapshot (A.accepts accounts) (output_state_of W.contents writer.old))
         (snapshot session failures (output_state_of W.contents writer.new))
         (input_state_of R.remaining reader.old) (input_state_of R.remaining reader.new)) }
 {
-    let gate = Gate::new(accounts, Files::new());
-    serve_with_limit(
-        alloc,
-        LIMIT,
-        reader,
-        writer,
-        &mut LoginLimit::new(FAILED_LOGINS, gate),
-    )
+    let limit = LoginLimit::new(FAILED_LOGINS);
+    let mut gate = Gate::new(accounts, Files::new()).with_limit(limit);
+    serve_with_limit(alloc, LIMIT, reader, writer, &mut gate)
 }
 
 fn main(rt: HostRuntime) -> ExitCode {

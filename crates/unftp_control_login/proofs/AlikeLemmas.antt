@@ -19,10 +19,10 @@ use Rattle.unftp_control_serve.specs.Writing.{Begins}
 use Rattle.unftp_control_login.specs.declared.stage.Stage.{Stage}
 use Rattle.unftp_control_login.specs.declared.stage.Stage.TheVariants.{NoName, Named, LoggedIn}
 use Rattle.unftp_control_login.specs.Login.{Accounts, GaveName}
-use Rattle.unftp_control_login.specs.Gate.{Answers, LogsIn, not_accepted, stage_after, stage_after_password}
+use Rattle.unftp_control_login.specs.Gate.{Answers, Gated, LogsIn, gated_law, not_accepted, stage_after, stage_after_password}
 use Rattle.unftp_control_login.specs.LoginLimit.{is_pass}
-use Rattle.unftp_control_login.specs.Promises.{AccountsStayHidden, AgreeOn, AtEachPlace, CallsHidePasswords, ErrorsHidePasswords, GivesPassword, IsRefusedLogin, LooksAlike, PasswordFits, PasswordsStayHidden, RefusedLoginsLookAlike, RefusedPasswordsLookAlike, login_lines, pass_line}
-use Rattle.unftp_control_login.proofs.StagedLemmas.{AllAlike, Alike, Staged, alike-itself, goes}
+use Rattle.unftp_control_login.specs.Promises.{AccountsStayHidden, AgreeOn, AtEachPlace, CallsHidePasswords, ErrorsHidePasswords, GivesPassword, IsRefusedLogin, LooksAlike, PasswordFits, PasswordsStayHidden, RefusedLoginsLookAlike, RefusedPasswordsLookAlike, gate_calls, login_lines, pass_line}
+use Rattle.unftp_control_login.proofs.StagedLemmas.{AllAlike, Alike, alike-itself, at, called, fails_alike, goes, turns}
 use Rattle.unftp_control_login.proofs.StageLemmas.{Reason, reason, stage_after-reason, stage_after_all}
 use Rattle.unftp_control_login.proofs.StepLemmas.{lifted, said-lifted}
 
@@ -173,78 +173,79 @@ all-answered-alike accepts other stage past (event ∷ events) given same =
           (stage_after-reason accepts stage past event given) same.1),
     )
 
-module _ {S : Type 0} {law : SessionLaw S} (staged : Staged law) where
-  open staged use {at}
+module _ {S : Type 0} (law : SessionLaw S) where
+  abbrev gate : SessionLaw (Gated S)
+  gate = gated_law law
 
-  module _ (accepts other : Accounts) {R : Type 0} (f : S → FtpEvent → R)
-      (one : (stage other_stage : Stage) (s : S) (event another : FtpEvent)
+  module _ (accepts other : Accounts) {R : Type 0} (f : Gated S → FtpEvent → R)
+      (one : (stage other_stage : Stage) (s : Gated S) (event another : FtpEvent)
       → Alike accepts other stage other_stage event another
       → f (at other other_stage s) another ≡ f (at accepts stage s) event) where
     -- at each of the later events, where the handler isn't done
-    abbrev later : S → List FtpEvent → List R
-    later s events = at_each f law s (if law.done s then [] else run_of law s events)
+    abbrev later : Gated S → List FtpEvent → List R
+    later s events = at_each f gate s (if gate.done s then [] else run_of gate s events)
 
-    later-same : (s t : S) (events others : List FtpEvent) → law.done s ≡ law.done t
-        → at_each f law s (run_of law s events) ≡ at_each f law t (run_of law t others)
+    later-same : (s t : Gated S) (events others : List FtpEvent) → gate.done s ≡ gate.done t
+        → at_each f gate s (run_of gate s events) ≡ at_each f gate t (run_of gate t others)
         → later s events ≡ later t others
     later-same s t events others same runs =
-        ap (λ over. at_each f law s (cond over [] (run_of law s events))) same
-        ∙ by_over (law.done t)
+        ap (λ over. at_each f gate s (cond over [] (run_of gate s events))) same
+        ∙ by_over (gate.done t)
       where
-        by_over : (over : Bool) → at_each f law s (cond over [] (run_of law s events))
-            ≡ at_each f law t (cond over [] (run_of law t others))
+        by_over : (over : Bool) → at_each f gate s (cond over [] (run_of gate s events))
+            ≡ at_each f gate t (cond over [] (run_of gate t others))
         by_over true = refl
         by_over false = runs
 
-    each-same : (stage other_stage : Stage) (s : S) (events others : List FtpEvent)
+    each-same : (stage other_stage : Stage) (s : Gated S) (events others : List FtpEvent)
         → AllAlike accepts other stage other_stage events others
-        → at_each f law (at other other_stage s) (run_of law (at other other_stage s) others)
-        ≡ at_each f law (at accepts stage s) (run_of law (at accepts stage s) events)
+        → at_each f gate (at other other_stage s) (run_of gate (at other other_stage s) others)
+        ≡ at_each f gate (at accepts stage s) (run_of gate (at accepts stage s) events)
     each-same stage other_stage s [] [] same = refl
     each-same stage other_stage s [] (another ∷ others) same = absurd same
     each-same stage other_stage s (event ∷ events) [] same = absurd same
     each-same stage other_stage s (event ∷ events) (another ∷ others) same =
-        let n = after law (at accepts stage s) event in
+        let n = after gate (at accepts stage s) event in
         let next = stage_after accepts stage event in
         let other_next = stage_after other other_stage another in
         (λ i. one stage other_stage s event another same.0 i
-        ∷ later (goes staged accepts other stage other_stage s event another same.0 i) others)
+        ∷ later (goes law accepts other stage other_stage s event another same.0 i) others)
         ∙ ap (λ later. f (at accepts stage s) event ∷ later)
         (later-same (at other other_next n) (at accepts next n) others events
-        (staged.done accepts other next other_next n)
+        refl
         (each-same next other_next n events others same.1)
-        ∙ ap (λ t. later t events) (sym (goes staged accepts accepts stage stage s event event
+        ∙ ap (λ t. later t events) (sym (goes law accepts accepts stage stage s event event
         (alike-itself accepts stage event))))
 
-  module _ (accepts other : Accounts) (s : S) (events others : List FtpEvent)
+  module _ (accepts other : Accounts) (s : Gated S) (events others : List FtpEvent)
       (same : AllAlike accepts other NoName NoName events others) where
-    text-same : text_of law (at accepts NoName s) (run_of law (at accepts NoName s) events)
-        ≡ text_of law (at other NoName s) (run_of law (at other NoName s) others)
+    text-same : text_of gate (at accepts NoName s) (run_of gate (at accepts NoName s) events)
+        ≡ text_of gate (at other NoName s) (run_of gate (at other NoName s) others)
     text-same = ap (λ turns. flat_map encoded (all_said turns)) (sym (each-same accepts other
-        (replies_to law) (λ stage other_stage s event another alike.
-        ap said (staged.turns accepts other stage other_stage s event another alike)
+        (replies_to gate) (λ stage other_stage s event another alike.
+        ap said (turns law accepts other stage other_stage s event another alike)
         ∙ said-lifted (at other (stage_after other other_stage another))
-        (turn law (at accepts stage s) event)) NoName NoName s events others same))
+        (turn gate (at accepts stage s) event)) NoName NoName s events others same))
 
-    calls-same : at_each staged.calls law (at accepts NoName s)
-        (run_of law (at accepts NoName s) events)
-        ≡ at_each staged.calls law (at other NoName s) (run_of law (at other NoName s) others)
-    calls-same = sym (each-same accepts other staged.calls (staged.called accepts other) NoName
+    calls-same : at_each (gate_calls law) gate (at accepts NoName s)
+        (run_of gate (at accepts NoName s) events)
+        ≡ at_each (gate_calls law) gate (at other NoName s) (run_of gate (at other NoName s) others)
+    calls-same = sym (each-same accepts other (gate_calls law) (called law accepts other) NoName
         NoName s events others same)
 
   -- At each of these events the handler does the same in the same state.
-  record SameStep (t : S) (event another : FtpEvent) : Type 0 where
-    turns : turn law t event ≡ turn law t another
-    may_fail : (fault : Fault) → law.may_fail t event fault → law.may_fail t another fault
+  record SameStep (t : Gated S) (event another : FtpEvent) : Type 0 where
+    turns : turn gate t event ≡ turn gate t another
+    may_fail : (fault : Fault) → gate.may_fail t event fault → gate.may_fail t another fault
 
-  abbrev SameSteps : S → List FtpEvent → List FtpEvent → Type 0
+  abbrev SameSteps : Gated S → List FtpEvent → List FtpEvent → Type 0
   SameSteps t [] [] = Unit {0}
   SameSteps t (event ∷ events) (another ∷ others) =
-      SameStep t event another × SameSteps (after law t event) events others
+      SameStep t event another × SameSteps (after gate t event) events others
   SameSteps t events others = ⊥
 
   -- so it is of events that look alike,
-  same-steps : (accepts : Accounts) (stage : Stage) (s : S) (past events others : List FtpEvent)
+  same-steps : (accepts : Accounts) (stage : Stage) (s : Gated S) (past events others : List FtpEvent)
       → Reason accepts stage past → AtEachPlace (LooksAlike accepts) past events others
       → SameSteps (at accepts stage s) events others
   same-steps accepts stage s past [] [] given same = tt
@@ -253,53 +254,53 @@ module _ {S : Type 0} {law : SessionLaw S} (staged : Staged law) where
   same-steps accepts stage s past (event ∷ events) (another ∷ others) given same =
       let itself = alike-itself accepts stage event in
       let step = look-alike accepts stage past event another given same.0 in
-      let turned = λ (other : FtpEvent). staged.turns accepts accepts stage stage s event other in (
+      let turned = λ (other : FtpEvent). turns law accepts accepts stage stage s event other in (
         record {
           turns = turned event itself
-              ∙ ap (λ next. lifted (at accepts next) (turn law (at accepts stage s) event)) step.1
+              ∙ ap (λ next. lifted (at accepts next) (turn gate (at accepts stage s) event)) step.1
               ∙ sym (turned another step.0);
-          may_fail = staged.may_fail accepts stage s event another step.0;
+          may_fail = fails_alike law accepts stage s event another step.0;
         },
         subst (λ t. SameSteps t events others)
-            (sym (goes staged accepts accepts stage stage s event event itself))
+            (sym (goes law accepts accepts stage stage s event event itself))
             (same-steps accepts (stage_after accepts stage event)
-            (after law (at accepts stage s) event) (past ++ event ∷ []) events others
+            (after gate (at accepts stage s) event) (past ++ event ∷ []) events others
             (stage_after-reason accepts stage past event given) same.1),
       )
 
   -- and then of the runs over them.
-  same-runs : (t : S) (events others : List FtpEvent) → SameSteps t events others
-      → SameSteps t (run_of law t events) (run_of law t others)
+  same-runs : (t : Gated S) (events others : List FtpEvent) → SameSteps t events others
+      → SameSteps t (run_of gate t events) (run_of gate t others)
   same-runs t [] [] same = tt
   same-runs t [] (another ∷ others) same = absurd same
   same-runs t (event ∷ events) [] same = absurd same
   same-runs t (event ∷ events) (another ∷ others) same =
-      let n = after law t event in (
+      let n = after gate t event in (
         same.0,
-        subst (λ next. SameSteps n (if law.done n then [] else run_of law n events)
-            (if law.done next then [] else run_of law next others))
+        subst (λ next. SameSteps n (if gate.done n then [] else run_of gate n events)
+            (if gate.done next then [] else run_of gate next others))
             (ap (state_after t) same.0.turns)
-            (by_done (law.done n) _ _ (same-runs n events others same.1)),
+            (by_done (gate.done n) _ _ (same-runs n events others same.1)),
       )
     where
       by_done : (over : Bool) (run other_run : List FtpEvent)
-          → SameSteps (after law t event) run other_run
-          → SameSteps (after law t event) (if over then [] else run)
+          → SameSteps (after gate t event) run other_run
+          → SameSteps (after gate t event) (if over then [] else run)
           (if over then [] else other_run)
       by_done true run other_run same = tt
       by_done false run other_run same = same
 
   -- A run that failed after some of its events, and what the other run has then.
-  record Other (t : S) (done later run : List FtpEvent) : Type 0 where
+  record Other (t : Gated S) (done later run : List FtpEvent) : Type 0 where
     done_too : List FtpEvent
     later_too : List FtpEvent
     whole : run ≡ done_too ++ later_too
     as_many : length done ≡ length done_too
-    state : last_state law t done ≡ last_state law t done_too
-    said_too : replies law t done ≡ replies law t done_too
-    same_later : SameSteps (last_state law t done) later later_too
+    state : last_state gate t done ≡ last_state gate t done_too
+    said_too : replies gate t done ≡ replies gate t done_too
+    same_later : SameSteps (last_state gate t done) later later_too
 
-  other_run : (t : S) (done later run : List FtpEvent) → SameSteps t (done ++ later) run
+  other_run : (t : Gated S) (done later run : List FtpEvent) → SameSteps t (done ++ later) run
       → Other t done later run
   other_run t [] later run same = record {
     done_too = [];
@@ -312,22 +313,22 @@ module _ {S : Type 0} {law : SessionLaw S} (staged : Staged law) where
   }
   other_run t (event ∷ done) later [] same = absurd same
   other_run t (event ∷ done) later (another ∷ run) same =
-      let o = other_run (after law t event) done later run same.1 in
+      let o = other_run (after gate t event) done later run same.1 in
       let turns = same.0.turns in
       record {
         done_too = another ∷ o.done_too;
         later_too = o.later_too;
         whole = ap (λ events. another ∷ events) o.whole;
         as_many = ap suc o.as_many;
-        state = o.state ∙ ap (λ steps. last_state law (state_after t steps) o.done_too) turns;
-        said_too = ap (λ later. said (turn law t event) ++ later) o.said_too
-            ∙ ap (λ steps. said steps ++ replies law (state_after t steps) o.done_too) turns;
+        state = o.state ∙ ap (λ steps. last_state gate (state_after t steps) o.done_too) turns;
+        said_too = ap (λ later. said (turn gate t event) ++ later) o.said_too
+            ∙ ap (λ steps. said steps ++ replies gate (state_after t steps) o.done_too) turns;
         same_later = o.same_later;
       }
 
-  ends-alike : (cause : Cause) (t : S) (later others : List FtpEvent) (sent : List (FtpReply × S))
-      (t' : S) → SameSteps t later others → EndsAt law cause t later sent t'
-      → EndsAt law cause t others sent t'
+  ends-alike : (cause : Cause) (t : Gated S) (later others : List FtpEvent) (sent : List (FtpReply × Gated S))
+      (t' : Gated S) → SameSteps t later others → EndsAt gate cause t later sent t'
+      → EndsAt gate cause t others sent t'
   ends-alike cause t [] [] sent t' same ends = ends
   ends-alike cause t [] (another ∷ others) sent t' same ends = absurd same
   ends-alike cause t (event ∷ later) [] sent t' same ends = absurd same
@@ -344,16 +345,16 @@ module _ {S : Type 0} {law : SessionLaw S} (staged : Staged law) where
   ends-alike ReplyMemory t (event ∷ later) (another ∷ others) sent t' same ends =
       subst (λ steps. Unsent steps sent (λ reply. ¬ (reply ≡ Nothing)) t') same.0.turns ends
 
-  pub errors-hidden : (limit : Option ℕ) (accepts : Accounts) (s : S)
-      → ErrorsHidePasswords limit accepts law (at accepts NoName s)
+  pub errors-hidden : (limit : Option ℕ) (accepts : Accounts) (s : Gated S)
+      → ErrorsHidePasswords limit accepts gate (at accepts NoName s)
   errors-hidden limit accepts s input other same differ before after error done is failed =
       let t = before.state in
       let steps =
       same-steps accepts NoName s [] (events limit input) (events limit other) tt same in
       let runs = same-runs t (events limit input) (events limit other)
       (subst (λ t. SameSteps t (events limit input) (events limit other)) (sym is) steps) in
-      let o = other_run t done failed.later (run_of law t (events limit other))
-      (subst (λ run. SameSteps t run (run_of law t (events limit other))) failed.split runs) in (
+      let o = other_run t done failed.later (run_of gate t (events limit other))
+      (subst (λ run. SameSteps t run (run_of gate t (events limit other))) failed.split runs) in (
         o.done_too,
         record {
           later = o.later_too;
@@ -362,8 +363,8 @@ module _ {S : Type 0} {law : SessionLaw S} (staged : Staged law) where
           cause = failed.cause;
           means = failed.means;
           ended = record {
-            ends_at = subst (λ t. EndsAt law failed.cause t o.later_too failed.sent after.state)
-                o.state (ends-alike failed.cause (last_state law t done) failed.later o.later_too
+            ends_at = subst (λ t. EndsAt gate failed.cause t o.later_too failed.sent after.state)
+                o.state (ends-alike failed.cause (last_state gate t done) failed.later o.later_too
                 failed.sent after.state o.same_later failed.ended.ends_at);
             given = subst (λ text. HasGiven text failed.cause before after)
                 (by_sent t done o.done_too failed.sent (ap (flat_map encoded) o.said_too))
@@ -375,25 +376,25 @@ module _ {S : Type 0} {law : SessionLaw S} (staged : Staged law) where
         },
       )
     where
-      by_sent : (t : S) (done others : List FtpEvent) (sent : List (FtpReply × S))
-          → text_of law t done ≡ text_of law t others
-          → whole_text law t done sent ≡ whole_text law t others sent
+      by_sent : (t : Gated S) (done others : List FtpEvent) (sent : List (FtpReply × Gated S))
+          → text_of gate t done ≡ text_of gate t others
+          → whole_text gate t done sent ≡ whole_text gate t others sent
       by_sent t done others [] same = same
       by_sent t done others (step ∷ steps) same =
           ap (λ text. text ++ flat_map encoded (said (step ∷ steps))) same
 
   -- over inputs
-  module _ (limit : Option ℕ) (accepts : Accounts) (s : S) where
-    pub passwords-hidden : PasswordsStayHidden limit accepts law (at accepts NoName s)
+  module _ (limit : Option ℕ) (accepts : Accounts) (s : Gated S) where
+    pub passwords-hidden : PasswordsStayHidden limit accepts gate (at accepts NoName s)
     passwords-hidden input other same = text-same accepts accepts s (events limit input)
         (events limit other) (all-look-alike accepts NoName [] _ _ tt same)
 
-    pub calls-hidden : CallsHidePasswords limit accepts law (at accepts NoName s) staged.calls
+    pub calls-hidden : CallsHidePasswords limit accepts gate (at accepts NoName s) (gate_calls law)
     calls-hidden input other same = calls-same accepts accepts s (events limit input)
         (events limit other) (all-look-alike accepts NoName [] _ _ tt same)
 
     pub accounts-hidden : (other : Accounts)
-        → AccountsStayHidden limit accepts other staged.calls law (at accepts NoName s)
+        → AccountsStayHidden limit accepts other (gate_calls law) gate (at accepts NoName s)
         (at other NoName s)
     accounts-hidden other input alike =
         let same = all-answered-alike accepts other NoName [] (events limit input) tt alike in (
@@ -406,13 +407,13 @@ module _ {S : Type 0} {law : SessionLaw S} (staged : Staged law) where
         → events limit input ≡ before ++ more → events limit other ≡ before ++ others
         → AllAlike accepts accepts (stage_after_all accepts NoName before)
         (stage_after_all accepts NoName before) more others
-        → text_for limit law (at accepts NoName s) input
-        ≡ text_for limit law (at accepts NoName s) other
+        → text_for limit gate (at accepts NoName s) input
+        ≡ text_for limit gate (at accepts NoName s) other
     text-after before more others input other one two same =
         text-same accepts accepts s (events limit input) (events limit other)
         (rw (one, two) (all-after accepts NoName before more others same))
 
-    pub passwords-alike : RefusedPasswordsLookAlike limit accepts law (at accepts NoName s)
+    pub passwords-alike : RefusedPasswordsLookAlike limit accepts gate (at accepts NoName s)
     passwords-alike before after password other ended one two same =
         let past : List FtpEvent = events limit before in
         let stage : Stage = stage_after_all accepts NoName past in
@@ -428,7 +429,7 @@ module _ {S : Type 0} {law : SessionLaw S} (staged : Staged law) where
               next (events limit after) (events limit after)) alike.1 (all-themselves accepts _ _),
         )
 
-    pub logins-alike : RefusedLoginsLookAlike limit accepts law (at accepts NoName s)
+    pub logins-alike : RefusedLoginsLookAlike limit accepts gate (at accepts NoName s)
     logins-alike before after name password other another ended one two =
         text-after (events limit before)
         (Command (User name) ∷ Command (Pass password) ∷ events limit after)

@@ -1,5 +1,5 @@
 -- What a gate does with an event that is neither USER nor PASS, and after it.
-use Rattle.std.proofs.Common.{◌≡◌, Bool, true, false, ◌||◌, List, ◌++◌, Option, Some, None, cond, refl, sym, ap, ◌∙◌}
+use Rattle.std.proofs.Common.{◌≡◌, ℕ, Bool, true, false, ◌||◌, List, ◌++◌, Option, Some, None, cond, refl, sym, ap, ◌∙◌}
 use Rattle.std.specs.Prelude.{Result, Ok, Err, IsTrue, OnErr}
 use Rattle.std.proofs.lemmas.Bool.{false≢true}
 use Rattle.std.proofs.lemmas.List.{append-nil}
@@ -10,20 +10,32 @@ use Rattle.unftp_control_defs.specs.Run.{Follows, SessionLaw}
 use Rattle.unftp_control_message.specs.declared.reply.error.ControlChanError.{ControlChanError}
 use Rattle.unftp_control_login.specs.HandlerCalls.{Call}
 use Rattle.unftp_control_login.specs.Login.{flushes_login, is_login}
-use Rattle.unftp_control_login.specs.Gate.{Decision, Gated, decided, gated_law, is_logged_in, is_passed, questions, state_by}
+use Rattle.unftp_control_login.specs.Gate.{Decision, Gated, decides, gated_law, is_logged_in, is_passed, left_after, questions, state_by}
+use Rattle.unftp_control_login.specs.LoginLimit.{is_pass}
 use Rattle.unftp_control_login.specs.declared.stage.Stage.{Stage}
 use Rattle.unftp_control_login.specs.declared.stage.Stage.TheVariants.{LoggedIn, Named, NoName}
-use Rattle.unftp_control_login.proofs.StageLemmas.{other-event}
+use Rattle.unftp_control_login.proofs.StageLemmas.{no-pass, other-event}
+
+-- no login fails by it
+left-other : (left : Option ℕ) (event : FtpEvent) → is_login event ≡ false → (decision : Decision)
+    → left_after left (is_pass event) decision ≡ left
+left-other left event other decision =
+    ap (λ at_pass. left_after left at_pass decision) (no-pass event other) ∙ kept decision
+  where
+    kept : (decision : Decision) → left_after left false decision ≡ left
+    kept (Answers reply) = refl
+    kept decision = refl
 
 -- the gate's state after it, whatever is decided
 pub other-next : {S : Type 0} (law : SessionLaw S) (s : Gated S) (event : FtpEvent)
-    → is_login event ≡ false → {decision : Decision} → decided s.accepts s.stage event ≡ decision
-    → {s' : Gated S} → s'.accepts ≡ s.accepts
+    → is_login event ≡ false → {decision : Decision} → decides s event ≡ decision
+    → {s' : Gated S} → s'.accepts ≡ s.accepts → s'.left ≡ s.left
     → s'.stage ≡ cond (flushes_login event) NoName s.stage → s'.quit ≡ (s.quit || is_quit event)
     → s'.passed ≡ is_passed decision → s'.inner ≡ state_by law s.inner decision
     → s' ≡ (gated_law law).next s event
-other-next law s event other is accepts stage quit passed inner = λ i. record {
+other-next law s event other is accepts left stage quit passed inner = λ i. record {
   accepts = accepts i;
+  left = (left ∙ sym (left-other s.left event other (decides s event))) i;
   stage = (stage ∙ sym (other-event s.accepts s.stage event other).1) i;
   quit = quit i;
   passed = (passed ∙ ap is_passed (sym is)) i;

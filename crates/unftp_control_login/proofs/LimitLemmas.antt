@@ -1,45 +1,87 @@
 -- How many logins fail in a run that has a limit.
-use Rattle.std.proofs.Common.{◌≡◌, ◌<◌, ◌≤◌, ◌⊎◌, inl, inr, ℕ, zero, suc, ◌+◌, ◌==◌, Bool, true, false, ◌||◌, cond, List, [], ◌∷◌, ◌++◌, refl, sym, ap, ◌∙◌, arith, append_assoc}
-use Rattle.std.proofs.lemmas.Bool.{false≢true, ne_eqb}
+use Rattle.std.proofs.Common.{◌≡◌, ◌<◌, ◌≤◌, ◌⊎◌, inl, inr, ℕ, zero, suc, ◌+◌, ◌-◌, ◌==◌, Bool, true, false, ◌&&◌, ◌||◌, cond, List, [], ◌∷◌, ◌++◌, Option, Some, None, refl, sym, ap, ◌∙◌, arith, append_assoc}
+use Rattle.std.proofs.lemmas.Bool.{false≢true, lt-leb, ne_eqb}
 use Rattle.std.proofs.lemmas.List.{append-nil}
-use Rattle.unftp_control_defs.specs.Events.{FtpEvent, Command}
-use Rattle.unftp_control_defs.specs.FtpCommand.{Quit}
+use Rattle.unftp_control_defs.specs.Events.{FtpEvent, Command, is_quit}
+use Rattle.unftp_control_defs.specs.FtpCommand.{Pass, Quit}
 use Rattle.unftp_control_defs.specs.FtpReply.{FtpReply}
-use Rattle.unftp_control_defs.specs.Run.{SessionLaw, after, said, state_after, turn, replies_to}
-use Rattle.unftp_control_login.specs.Gate.{Gated, gated_law}
-use Rattle.unftp_control_login.specs.LoginLimit.{EndsWith, Limited, failed_in_run, is_failed_login, is_pass, limited_law, too_many}
-use Rattle.unftp_control_login.proofs.LimitStepLemmas.{limited-counted, limited-last, limited-unchanged}
-use Rattle.unftp_control_login.proofs.StageLemmas.{gate-after}
-use Rattle.unftp_control_login.proofs.StepLemmas.{after-lifted, said-lifted}
+use Rattle.unftp_control_defs.specs.Run.{SessionLaw, after, said, state_after, replies_to}
+use Rattle.unftp_control_login.specs.Gate.{Answers, Decision, Gated, LogsIn, PassesOn, decided, decides, gated_law, is_passed, is_refusal, left_after, limited, passed_steps, reply_by, state_by, unlimited}
+use Rattle.unftp_control_login.specs.LoginLimit.{EndsWith, failed_in_run, has_failure, is_failed_login, is_last, is_pass, is_used_up, one_fewer, too_many}
+use Rattle.unftp_control_login.proofs.MemberLemmas.{turned}
+use Rattle.unftp_control_login.proofs.StageLemmas.{by-password, gate-after, passed_more}
 
-on-left : (left : ℕ) (done : Bool) → ((left == 0) || done) ≡ false → 1 ≤ left
-on-left zero done e = absurd (false≢true (sym e))
-on-left (suc left) done e = omega arith
+on-left : (quit : Bool) (left : ℕ) (done : Bool) → ((quit || (left == 0)) || done) ≡ false → 1 ≤ left
+on-left true left done e = absurd (false≢true (sym e))
+on-left false zero done e = absurd (false≢true (sym e))
+on-left false (suc left) done e = omega arith
+
+-- The last login that may fail is answered 421.
+last-decided : (left : Option ℕ) (at_pass : Bool) (decision : Decision)
+    → is_refusal at_pass (limited left at_pass decision) ≡ true → is_last left ≡ true
+    → limited left at_pass decision ≡ Answers too_many
+last-decided left true (Answers reply) refuses last =
+    ap (λ last. cond last (Answers too_many) (Answers reply)) last
+last-decided left false (Answers reply) refuses last = absurd (false≢true refuses)
+last-decided left at_pass decision refuses last = absurd (false≢true refuses)
+
+none-limited : (at_pass : Bool) (decision : Decision) → limited None at_pass decision ≡ decision
+none-limited true (Answers reply) = refl
+none-limited false (Answers reply) = refl
+none-limited at_pass decision = refl
 
 module _ {S : Type 0} (law : SessionLaw S) where
-  abbrev limited : SessionLaw (Limited S)
-  limited = limited_law law
-
-  pub record IsBounded (s : Limited S) (events : List FtpEvent) : Type 0 where
-    pub few : failed_in_run limited s events ≤ s.left
-    pub last : failed_in_run limited s events ≡ s.left → EndsWith too_many limited s events
+  abbrev gate : SessionLaw (Gated S)
+  gate = gated_law law
 
   -- whether the login of one event fails
-  abbrev count : Limited S → FtpEvent → ℕ
-  count s event = cond (is_failed_login event (replies_to limited s event)) 1 0
+  abbrev failed : Gated S → FtpEvent → Bool
+  failed s event = is_failed_login event (replies_to gate s event)
 
-  with_done : (done : Bool) {s : Limited S} {event : FtpEvent} {events : List FtpEvent}
-      → limited.done (after limited s event) ≡ done
-      → count s event + (after limited s event).left ≡ s.left
-      → (count s event ≡ s.left → (earlier : List FtpReply)
-      × (replies_to limited s event ≡ earlier ++ too_many ∷ []))
-      → (done ≡ false → IsBounded (after limited s event) events) → IsBounded s (event ∷ events)
+  abbrev refuses : Gated S → FtpEvent → Bool
+  refuses s event = is_refusal (is_pass event) (decides s event)
+
+  failed-refuses : (s : Gated S) (event : FtpEvent) → failed s event ≡ refuses s event
+  failed-refuses s (Command (Pass password)) = ap has_failure
+      (turned law s (Command (Pass password)) {decision = decides s (Command (Pass password))} refl (refl, refl)).0
+      ∙ by-password (λ decision. has_failure (reply_by law s.inner decision ∷ said
+      (cond (is_passed decision) (law.more (state_by law s.inner decision)) []))
+      ≡ is_refusal true decision) (λ name. refl) refl refl refl s.accepts s.left s.stage password
+  failed-refuses s event = none (decides s event) where
+    none : (decision : Decision) → false ≡ is_refusal false decision
+    none (Answers reply) = refl
+    none decision = refl
+
+  after-left : (s : Gated S) (event : FtpEvent) (refused : Bool) → refuses s event ≡ refused
+      → (after gate s event).left ≡ cond refused (one_fewer s.left) s.left
+  after-left s event refused is = ap (λ (s : Gated S). s.left) (gate-after law (gate.next s event))
+      ∙ ap (λ refused. cond refused (one_fewer s.left) s.left) is
+
+  last-said : (s : Gated S) (event : FtpEvent) → refuses s event ≡ true → is_last s.left ≡ true
+      → replies_to gate s event ≡ too_many ∷ []
+  last-said s event refused last =
+      (turned law s event (last-decided s.left (is_pass event) _ refused last) (refl, refl)).0
+
+  pub record IsBounded (s : Gated S) (left : ℕ) (events : List FtpEvent) : Type 0 where
+    pub few : failed_in_run gate s events ≤ left
+    pub last : failed_in_run gate s events ≡ left → EndsWith too_many gate s events
+
+  abbrev count : Bool → ℕ
+  count failed = cond failed 1 0
+
+  with_done : (done : Bool) {s : Gated S} {event : FtpEvent} {events : List FtpEvent}
+      {left left' : ℕ} → gate.done (after gate s event) ≡ done
+      → count (failed s event) + left' ≡ left
+      → (count (failed s event) ≡ left → (earlier : List FtpReply)
+      × (replies_to gate s event ≡ earlier ++ too_many ∷ []))
+      → (done ≡ false → IsBounded (after gate s event) left' events)
+      → IsBounded s left (event ∷ events)
   with_done true {s} {event} e counted last later = record {
     few = rw (e) (omega (arith, counted));
     last = rw (e) (λ all. let end = last (omega (arith, all)) in (
       refl,
       end.0,
-      append-nil (replies_to limited s event) ∙ end.1,
+      append-nil (replies_to gate s event) ∙ end.1,
     ));
   }
   with_done false {s} {event} {events} e counted last later =
@@ -48,59 +90,89 @@ module _ {S : Type 0} (law : SessionLaw S) where
         few = rw (e) (let few = rest.few in omega (arith, counted, few));
         last = rw (e) (λ all. let end = rest.last (omega (arith, counted, all)) in (
           end.0,
-          replies_to limited s event ++ end.1,
-          ap (λ replies. replies_to limited s event ++ replies) end.2
-              ∙ sym (append_assoc (replies_to limited s event) end.1 (too_many ∷ [])),
+          replies_to gate s event ++ end.1,
+          ap (λ replies. replies_to gate s event ++ replies) end.2
+              ∙ sym (append_assoc (replies_to gate s event) end.1 (too_many ∷ [])),
         ));
       }
 
-  pub bounded : (s : Limited S) (events : List FtpEvent) → 1 ≤ s.left → IsBounded s events
-  bounded s [] some = record { few = omega arith; last = λ all. absurd (omega (arith, some, all)) }
-  bounded s (event ∷ events) some =
-      let steps = turn law s.inner event in
-      with_done (limited.done (after limited s event)) refl
-      (limited-counted s.left (is_pass event) steps s refl (λ passes. some))
-      (limited-last s.left (is_pass event) steps some)
-      (λ on. bounded (after limited s event) events (on-left (after limited s event).left _ on))
+  pub bounded : (s : Gated S) (left : ℕ) (events : List FtpEvent) → s.left ≡ Some left → 1 ≤ left
+      → IsBounded s left events
+  bounded s left [] is some =
+      record { few = omega arith; last = λ all. absurd (omega (arith, some, all)) }
+  bounded s left (event ∷ events) is some = by_refused (refuses s event) refl where
+    n : Gated S
+    n = after gate s event
 
-  by_quit : (quit done : Bool) → ((quit || true) || done) ≡ true
-  by_quit true done = refl
-  by_quit false done = refl
+    by_refused : (refused : Bool) → refuses s event ≡ refused → IsBounded s left (event ∷ events)
+    by_refused false e =
+        let none = ap count (failed-refuses s event ∙ e) in
+        let same = after-left s event false e ∙ is in
+        with_done (gate.done n) refl (omega (arith, none))
+        (λ all. absurd (omega (arith, none, some, all))) (λ on. bounded n left events same some)
+    by_refused true e =
+        let one = ap count (failed-refuses s event ∙ e) in
+        let fewer = after-left s event true e ∙ ap one_fewer is in
+        with_done (gate.done n) refl (omega (arith, one, some))
+        (λ all. ([], last-said s event e (ap is_last (is ∙ ap Some (sym all ∙ one)))))
+        (λ on. bounded n (left - 1) events fewer
+        (on-left n.quit (left - 1) (law.done n.inner)
+        (ap (λ left. (n.quit || is_used_up left) || law.done n.inner) (sym fewer) ∙ on)))
 
-  pub quit-ends : (s : Gated S) → (gated_law law).done (after (gated_law law) s (Command Quit))
-      ≡ true
-  quit-ends s = ap (gated_law law).done (gate-after law ((gated_law law).next s (Command Quit)))
-      ∙ by_quit s.quit _
+  by_quit : (quit used_up done : Bool) → (((quit || true) || used_up) || done) ≡ true
+  by_quit true used_up done = refl
+  by_quit false used_up done = refl
 
--- a limit that changes nothing
-none-left : (left : ℕ) (done : Bool) → 1 ≤ left → ((left == 0) || done) ≡ done
-none-left left done some =
-    ap (λ none. none || done) (ne_eqb left 0 (λ none. omega (arith, some, none)))
+  pub quit-ends : (s : Gated S) → gate.done (after gate s (Command Quit)) ≡ true
+  quit-ends s = ap gate.done (gate-after law (gate.next s (Command Quit)))
+      ∙ by_quit s.quit (is_used_up s.left) _
 
-some-left : (failed : Bool) (left left' : ℕ) → cond failed 1 0 + left' ≡ left → 1 ≤ left
-    → (1 < left) ⊎ (failed ≡ false) → 1 ≤ left'
-some-left false left left' counted some few = omega (arith, counted, some)
-some-left true left left' counted some (inl more) = omega (arith, counted, more)
-some-left true left left' counted some (inr none) = absurd (false≢true (sym none))
+  -- While more than one may fail, and where none does, a limit changes nothing.
+  module _ (s : Gated S) (left : ℕ) (event : FtpEvent) (is : s.left ≡ Some left)
+      (few : (1 < left) ⊎ (failed (unlimited s) event ≡ false)) where
+    abbrev own : Decision
+    own = decided s.accepts s.stage event
 
-module _ {S : Type 0} (law : SessionLaw S) (s : Limited S) (event : FtpEvent)
-    (few : (1 < s.left) ⊎ (is_failed_login event (replies_to law s.inner event) ≡ false)) where
-  pub says-unchanged : replies_to (limited_law law) s event ≡ replies_to law s.inner event
-  says-unchanged = sym (said-lifted (λ (s : Limited S). s.inner) (turn (limited_law law) s event))
-      ∙ ap said (limited-unchanged s.left (is_pass event) (turn law s.inner event) few)
+    not-last : (refused : Bool) → is_refusal (is_pass event) own ≡ refused
+        → (refused && is_last s.left) ≡ false
+    not-last false e = refl
+    not-last true e = by_few few where
+      by_few : (1 < left) ⊎ (failed (unlimited s) event ≡ false) → is_last s.left ≡ false
+      by_few (inl more) = ap is_last is ∙ lt-leb left 1 more
+      by_few (inr none) = absurd (false≢true (sym none ∙ failed-refuses (unlimited s) event
+          ∙ ap (is_refusal (is_pass event)) (none-limited (is_pass event) own) ∙ e))
 
-  few_sent : (1 < s.left) ⊎ (is_failed_login event (replies_to law s.inner event) ≡ false)
-      → (1 < s.left) ⊎ (is_failed_login event (replies_to (limited_law law) s event) ≡ false)
-  few_sent (inl more) = inl more
-  few_sent (inr none) = inr (ap (is_failed_login event) says-unchanged ∙ none)
+    same : decides s event ≡ decides (unlimited s) event
+    same = ap (λ last. cond last (Answers too_many) own) (not-last _ refl)
+        ∙ sym (none-limited (is_pass event) own)
 
-  pub done-unchanged : 1 ≤ s.left → (limited_law law).done (after (limited_law law) s event)
-      ≡ law.done (after law s.inner event)
-  done-unchanged some =
-      let steps = turn law s.inner event in
-      none-left _ _ (some-left (is_failed_login event (replies_to (limited_law law) s event)) s.left
-      (after (limited_law law) s event).left
-      (limited-counted s.left (is_pass event) steps s refl (λ passes. some)) some (few_sent few))
-      ∙ ap law.done
-      (sym (after-lifted (λ (s : Limited S). s.inner) s (turn (limited_law law) s event))
-      ∙ ap (state_after s.inner) (limited-unchanged s.left (is_pass event) steps few))
+    pub says-unchanged : replies_to gate s event ≡ replies_to gate (unlimited s) event
+    says-unchanged = (turned law s event same (refl, refl)).0
+        ∙ sym (turned law (unlimited s) event refl (refl, refl)).0
+
+
+    some-left : 1 ≤ left → (refused : Bool) → refuses s event ≡ refused
+        → is_used_up (cond refused (one_fewer s.left) s.left) ≡ false
+    some-left some false e =
+        ap is_used_up is ∙ ne_eqb left 0 (λ none. omega (arith, some, none))
+    some-left some true e = by_few few where
+      by_few : (1 < left) ⊎ (failed (unlimited s) event ≡ false)
+          → is_used_up (one_fewer s.left) ≡ false
+      by_few (inl more) = ap (λ left. is_used_up (one_fewer left)) is
+          ∙ ne_eqb (left - 1) 0 (λ none. omega (arith, more, none))
+      by_few (inr none) = absurd (false≢true (sym none ∙ failed-refuses (unlimited s) event
+          ∙ ap (is_refusal (is_pass event)) (sym same) ∙ e))
+
+    none-used : (refused : Bool) → is_used_up (cond refused (one_fewer None) None) ≡ false
+    none-used true = refl
+    none-used false = refl
+
+    pub done-unchanged : 1 ≤ left → gate.done (after gate s event)
+        ≡ gate.done (after gate (unlimited s) event)
+    done-unchanged some =
+        ap gate.done (gate-after law (gate.next s event))
+        ∙ (λ i. ((s.quit || is_quit event) || (some-left some _ refl
+        ∙ sym (none-used (refuses (unlimited s) event))) i) || law.done
+        (state_after (state_by law s.inner (same i))
+        (cond (is_passed (same i)) (law.more (state_by law s.inner (same i))) [])))
+        ∙ sym (ap gate.done (gate-after law (gate.next (unlimited s) event)))

@@ -18,14 +18,13 @@ use Rattle.unftp_control_defs.proofs.RunLemmas.{last_state-append, run_of-first}
 use Rattle.unftp_control_login.specs.declared.stage.Stage.{Stage}
 use Rattle.unftp_control_login.specs.declared.stage.Stage.TheVariants.{NoName, Named}
 use Rattle.unftp_control_login.specs.Login.{Accounts, GaveName, IsLoggedIn, is_login, needs_login}
-use Rattle.unftp_control_login.specs.Gate.{Answers, Decision, Gated, LogsIn, PassesOn, closed, decided, decided_by_password, gated_law, is_barred, is_logged_in, is_passed, logged_in, login_needed, name_needed, not_accepted, passed_steps, password_needed, reply_by, state_by}
-use Rattle.unftp_control_login.specs.LoginLimit.{Limited, is_pass, limited_law, limited_steps, limited_to, too_many}
-use Rattle.unftp_control_login.specs.Promises.{AfterLogin, AtEachPlace, IsPlainExchange, IsTurnedAway, LearnsName, MembersAlone, NoFailure, ReachesHandler, SendsPlainExchanges, ServesMembersAlone, guarded, guarded_law}
-use Rattle.unftp_control_login.proofs.LimitStepLemmas.{limited-all, limited-alone, limited-exchange, limited-others}
-use Rattle.unftp_control_login.proofs.StageLemmas.{IsLoggedIn-stage, GaveName-stage, gate-after, gate-more, passed_more, logged_in-stage, needs-other, decided-barred, decided-open, stage_after_all}
+use Rattle.unftp_control_login.specs.Gate.{Answers, Decision, Gated, LogsIn, PassesOn, decided_by_password, decides, gated_law, is_barred, is_logged_in, is_passed, limited, logged_in, login_needed, name_needed, not_accepted, password_needed, reply_by, state_by}
+use Rattle.unftp_control_login.specs.LoginLimit.{is_used_up, too_many}
+use Rattle.unftp_control_login.specs.Promises.{AfterLogin, AtEachPlace, IsPlainExchange, IsTurnedAway, LearnsName, MembersAlone, NoFailure, ReachesHandler, SendsPlainExchanges, ServesMembersAlone, guarded}
+use Rattle.unftp_control_login.proofs.StageLemmas.{IsLoggedIn-stage, GaveName-stage, gate-after, gate-more, passed_more, logged_in-stage, needs-other, by-password, decided-barred, decided-open, decides-other, stage_after_all}
 use Rattle.unftp_control_login.proofs.FinalLemmas.{IsFinal, final}
 use Rattle.unftp_control_login.proofs.StepLemmas.{said-lifted}
-use Rattle.unftp_control_login.proofs.StagedLemmas.{gate_at, gate_staged, last-at, limit_staged}
+use Rattle.unftp_control_login.proofs.StagedLemmas.{at, last-at}
 
 all-of : {X : Type 0} (P : X → Type 0) (xs : List X) → ((x : X) → P x) → AllByRecursion P xs
 all-of P [] each = tt
@@ -41,13 +40,13 @@ module _ {S : Type 0} (law : SessionLaw S) (s : Gated S) (event : FtpEvent) wher
       × (state_after (state_by law s.inner decision)
       (if is_passed decision then law.more (state_by law s.inner decision) else []) ≡ inner)
 
-  turned : {sent : List FtpReply} {inner : S} {decision : Decision}
-      → decided s.accepts s.stage event ≡ decision → Turns decision sent inner
+  pub turned : {sent : List FtpReply} {inner : S} {decision : Decision}
+      → decides s event ≡ decision → Turns decision sent inner
       → (replies_to (gated_law law) s event ≡ sent)
       × ((after (gated_law law) s event).inner ≡ inner)
   turned {sent} {inner} is turns =
       let n = (gated_law law).next s event in
-      let so : Turns (decided s.accepts s.stage event) sent inner =
+      let so : Turns (decides s event) sent inner =
       subst (λ decision. Turns decision sent inner) (sym is) turns in (
         ap (λ replies. (gated_law law).says s event ∷ replies)
             (ap said (gate-more law n) ∙ said-lifted _ (passed_more law n)) ∙ so.0,
@@ -58,20 +57,28 @@ module _ {S : Type 0} (law : SessionLaw S) (s : Gated S) (event : FtpEvent) wher
     pub barred-turn : is_barred s.stage event ≡ true
         → (replies_to (gated_law law) s event ≡ login_needed ∷ [])
         × ((after (gated_law law) s event).inner ≡ s.inner)
-    barred-turn barred = turned (decided-barred s.accepts s.stage event other barred) (refl, refl)
+    barred-turn barred = turned
+        (decides-other s event other (decided-barred s.accepts s.stage event other barred))
+        (refl, refl)
 
     pub open-turn : is_barred s.stage event ≡ false
         → (replies_to (gated_law law) s event ≡ replies_to law s.inner event)
         × ((after (gated_law law) s event).inner ≡ after law s.inner event)
-    open-turn free = turned (decided-open s.accepts s.stage event other free) (refl, refl)
+    open-turn free = turned
+        (decides-other s event other (decided-open s.accepts s.stage event other free))
+        (refl, refl)
 
-module _ {S : Type 0} (law : SessionLaw S) (accepts : Accounts) (inner : S) where
+module _ {S : Type 0} (law : SessionLaw S) (accepts : Accounts) (failures : Option ℕ) (inner : S)
+  where
+  abbrev first : Gated S
+  first = guarded failures accepts inner
+
   abbrev after_all : List FtpEvent → Gated S
-  after_all before = last_state (gated_law law) (closed accepts inner) before
+  after_all before = last_state (gated_law law) first before
 
   state-is : (before : List FtpEvent) → (base : Gated S)
-      × (after_all before ≡ gate_at law accepts (stage_after_all accepts NoName before) base)
-  state-is before = last-at (gate_staged law) accepts NoName (closed accepts inner) before
+      × (after_all before ≡ at accepts (stage_after_all accepts NoName before) base)
+  state-is before = last-at law accepts NoName first before
 
   stage-is : (before : List FtpEvent)
       → (after_all before).stage ≡ stage_after_all accepts NoName before
@@ -79,7 +86,7 @@ module _ {S : Type 0} (law : SessionLaw S) (accepts : Accounts) (inner : S) wher
 
   gated_at : (before : List FtpEvent) (event : FtpEvent) → IsTrue (needs_login event)
       → (member : Bool) → is_logged_in (after_all before).stage ≡ member
-      → IsLoggedIn accepts before ⊎ IsTurnedAway law accepts inner before event
+      → IsLoggedIn accepts before ⊎ IsTurnedAway law first before event
   gated_at before event needs true e =
       inl (logged_in-stage accepts before (ap is_logged_in (sym (stage-is before)) ∙ e))
   gated_at before event needs false e =
@@ -87,7 +94,7 @@ module _ {S : Type 0} (law : SessionLaw S) (accepts : Accounts) (inner : S) wher
       (λ i. needs i && not (e i)))
 
   pub gated-all : (before : List FtpEvent) (event : FtpEvent) → IsTrue (needs_login event)
-      → IsLoggedIn accepts before ⊎ IsTurnedAway law accepts inner before event
+      → IsLoggedIn accepts before ⊎ IsTurnedAway law first before event
   gated-all before event needs =
       gated_at before event needs (is_logged_in (after_all before).stage) refl
 
@@ -100,7 +107,7 @@ module _ {S : Type 0} (law : SessionLaw S) (accepts : Accounts) (inner : S) wher
 
   pub member-reaches : (before : List FtpEvent) (event : FtpEvent) → is_login event ≡ false
       → IsLoggedIn accepts before
-      → ReachesHandler law accepts inner before event
+      → ReachesHandler law first before event
   member-reaches before event other member =
       open-turn law (after_all before) event other
       (ap (λ stage. needs_login event && not (is_logged_in stage))
@@ -109,59 +116,37 @@ module _ {S : Type 0} (law : SessionLaw S) (accepts : Accounts) (inner : S) wher
 
   pub open-reaches : (before : List FtpEvent) (event : FtpEvent) → is_login event ≡ false
       → needs_login event ≡ false
-      → ReachesHandler law accepts inner before event
+      → ReachesHandler law first before event
   open-reaches before event other free =
       open-turn law (after_all before) event other
       (needs_none (needs_login event) (is_logged_in (after_all before).stage) free)
 
   -- an accepted password: the handler receives the name
   pub name-learned : (before : List FtpEvent) (name password : Bytes) → GaveName name before
-      → accepts name password ≡ true → LearnsName law accepts inner before name password
+      → accepts name password ≡ true → LearnsName law first before name password
   name-learned before name password named accepted =
       let s = after_all before in
       let is = (state-is before).1 in
       (turned law s (Command (Pass password)) {sent = logged_in ∷ []}
-      ((λ i. decided_by_password (is i).accepts (is i).stage password)
+      (ap (limited s.left true) ((λ i. decided_by_password (is i).accepts (is i).stage password)
       ∙ ap (λ stage. decided_by_password accepts stage password)
       (GaveName-stage accepts name before named)
-      ∙ ap (λ test. cond test (LogsIn name) (Answers not_accepted)) accepted) (refl, refl)).1
+      ∙ ap (λ test. cond test (LogsIn name) (Answers not_accepted)) accepted)) (refl, refl)).1
 
--- Who is served, at a state that follows from the events.
-abbrev Serves : {S : Type 0} → Accounts → List FtpEvent → SessionLaw S → S → FtpEvent → Type 0
-Serves accepts before law s event =
-    AllByRecursion (λ reply. NoFailure reply → IsLoggedIn accepts before) (replies_to law s event)
-
-serves-members : {S : Type 0} (law : SessionLaw S) (accepts : Accounts) (before : List FtpEvent)
-    (s : Gated S) (event : FtpEvent) → s.stage ≡ stage_after_all accepts NoName before
-    → IsTrue (needs_login event) → Serves accepts before (gated_law law) s event
-serves-members law accepts before s event same needs =
-    by_member (is_logged_in s.stage) refl
-  where
-    by_member : (member : Bool) → is_logged_in s.stage ≡ member
-        → Serves accepts before (gated_law law) s event
+  -- Who is served.
+  pub serves-members : ServesMembersAlone accepts (gated_law law) first
+  serves-members before event needs = by_member (is_logged_in (after_all before).stage) refl where
+    by_member : (member : Bool) → is_logged_in (after_all before).stage ≡ member
+        → AllByRecursion (λ reply. NoFailure reply → IsLoggedIn accepts before)
+        (replies_to (gated_law law) (after_all before) event)
     by_member true e = all-of (λ reply. NoFailure reply → IsLoggedIn accepts before)
-        (replies_to (gated_law law) s event)
-        (λ reply ok. logged_in-stage accepts before (ap is_logged_in (sym same) ∙ e))
+        (replies_to (gated_law law) (after_all before) event) (λ reply ok.
+        logged_in-stage accepts before (ap is_logged_in (sym (stage-is before)) ∙ e))
     by_member false e = subst
         (AllByRecursion (λ reply. NoFailure reply → IsLoggedIn accepts before))
-        (sym (barred-turn law s event (needs-other event needs) (λ i. needs i && not (e i))).0)
+        (sym (barred-turn law (after_all before) event (needs-other event needs)
+        (λ i. needs i && not (e i))).0)
         ((λ low. absurd (omega (arith, low))), tt)
-
--- of the gate, and of a limit before it
-pub guarded_serves-members : {S : Type 0} (law : SessionLaw S) (accepts : Accounts)
-    (failures : Option ℕ) (inner : S)
-    → ServesMembersAlone accepts (guarded_law failures law) (guarded failures accepts inner)
-guarded_serves-members law accepts None inner before event needs =
-    serves-members law accepts before (last_state (gated_law law) (closed accepts inner) before)
-    event (stage-is law accepts inner before) needs
-guarded_serves-members law accepts (Some left) inner before event needs =
-    let start : Limited (Gated _) = limited_to left (closed accepts inner) in
-    let s = last_state (limited_law (gated_law law)) start before in
-    limited-all (λ reply. NoFailure reply → IsLoggedIn accepts before) s.left (is_pass event)
-    (turn (gated_law law) s.inner event) (λ low. absurd (omega (arith, low)))
-    (serves-members law accepts before s.inner event
-    (ap (λ (s : Limited (Gated _)). s.inner.stage)
-    (last-at (limit_staged law) accepts NoName start before).1) needs)
 
 -- The gate's own replies are final ones,
 abbrev OwnFinal : Decision → Type 0
@@ -169,29 +154,23 @@ OwnFinal (Answers reply) = IsFinal reply
 OwnFinal (LogsIn name) = IsFinal logged_in
 OwnFinal (PassesOn event) = Unit {0}
 
-password-final : (accepts : Accounts) (stage : Stage) (password : Bytes)
-    → OwnFinal (decided_by_password accepts stage password)
-password-final accepts (Named name) password =
-    cond_both (accepts name password) (LogsIn name) (Answers not_accepted) OwnFinal
-    (λ _. final logged_in refl) (λ _. final not_accepted refl)
-password-final accepts stage password = final name_needed refl
-
-decided-final : (accepts : Accounts) (stage : Stage) (event : FtpEvent)
-    → OwnFinal (decided accepts stage event)
-decided-final accepts stage (Command (User name)) = final password_needed refl
-decided-final accepts stage (Command (Pass password)) = password-final accepts stage password
-decided-final accepts stage event =
-    cond_both (is_barred stage event) (Answers login_needed) (PassesOn event) OwnFinal
-    (λ _. final login_needed refl) (λ _. tt)
+decides-final : {S : Type 0} (s : Gated S) (event : FtpEvent) → OwnFinal (decides s event)
+decides-final s (Command (User name)) = final password_needed refl
+decides-final s (Command (Pass password)) = by-password OwnFinal (λ name. final logged_in refl)
+    (final not_accepted refl) (final name_needed refl) (final too_many refl) s.accepts s.left s.stage
+    password
+decides-final s event =
+    cond_both (is_barred s.stage event) (Answers login_needed) (PassesOn event)
+    (λ decision. OwnFinal (limited s.left false decision)) (λ _. final login_needed refl) (λ _. tt)
 
 -- and all others those of the handler.
 module _ {S : Type 0} (law : SessionLaw S) (s : Gated S) (event : FtpEvent) where
   gate-plain-at : ((passed : FtpEvent) → IsPlainExchange (replies_to law s.inner passed))
       → IsPlainExchange (replies_to (gated_law law) s event)
   gate-plain-at plain =
-      by_decision (decided s.accepts s.stage event) refl (decided-final s.accepts s.stage event)
+      by_decision (decides s event) refl (decides-final s event)
     where
-      by_decision : (decision : Decision) → decided s.accepts s.stage event ≡ decision
+      by_decision : (decision : Decision) → decides s event ≡ decision
           → OwnFinal decision → IsPlainExchange (replies_to (gated_law law) s event)
       by_decision (Answers reply) is own = subst IsPlainExchange
           (sym (turned law s event {sent = reply ∷ []} is (refl, refl)).0) (own.1, (own.0, tt))
@@ -205,8 +184,8 @@ module _ {S : Type 0} (law : SessionLaw S) (s : Gated S) (event : FtpEvent) wher
   -- the handler stays, or has received an event
   gate-moves : ((after (gated_law law) s event).inner ≡ s.inner)
       ⊎ ((passed : FtpEvent) × ((after (gated_law law) s event).inner ≡ after law s.inner passed))
-  gate-moves = by_decision (decided s.accepts s.stage event) refl where
-    by_decision : (decision : Decision) → decided s.accepts s.stage event ≡ decision
+  gate-moves = by_decision (decides s event) refl where
+    by_decision : (decision : Decision) → decides s event ≡ decision
         → ((after (gated_law law) s event).inner ≡ s.inner) ⊎ ((passed : FtpEvent)
         × ((after (gated_law law) s event).inner ≡ after law s.inner passed))
     by_decision (Answers reply) is =
@@ -238,51 +217,8 @@ gate-plain law s sends (past ∷ before) event on =
     gate-plain law next (⊎_elim
     (λ stays. subst (SendsPlainExchanges law) (sym stays) sends)
     (λ moves. sends-later law s.inner next.inner moves.0 sends moves.1
-    (or_parts next.quit (law.done next.inner) goes_on.0).1)
+    (or_parts (next.quit || is_used_up next.left) (law.done next.inner) goes_on.0).1)
     (gate-moves law s past)) before event goes_on.1
-
--- A limit leaves the gate as it is: it ends no turn early, since the gate has one reply to PASS.
-pass-alone : (accepts : Accounts) (stage : Stage) (event : FtpEvent)
-    → (is_pass event ≡ false) ⊎ (is_passed (decided accepts stage event) ≡ false)
-pass-alone accepts (Named name) (Command (Pass password)) =
-    inr (cond_both (accepts name password) (LogsIn name) (Answers not_accepted)
-    (λ decision. is_passed decision ≡ false) (λ _. refl) (λ _. refl))
-pass-alone accepts stage (Command (Pass password)) = inr refl
-pass-alone accepts stage event = inl refl
-
-limit-moves : {S : Type 0} (law : SessionLaw S) (s : Limited (Gated S)) (event : FtpEvent)
-    → (after (limited_law (gated_law law)) s event).inner ≡ after (gated_law law) s.inner event
-limit-moves {S} law s event = ⊎_elim
-    (λ other. (λ i. (state_after s (limited_steps s.left (other i)
-    (turn (gated_law law) s.inner event))).inner)
-    ∙ limited-others s s.left (turn (gated_law law) s.inner event))
-    (λ kept.
-    let next = (gated_law law).next s.inner event in
-    let alone : (gated_law law).more next ≡ [] =
-    (λ i. cond (kept i) (passed_steps next (law.more next.inner)) []) in
-    (λ i. (state_after s (limited_steps s.left (is_pass event)
-    (((gated_law law).says s.inner event, next) ∷ alone i))).inner)
-    ∙ limited-alone s s.left (is_pass event) ((gated_law law).says s.inner event, next)
-    ∙ (λ i. state_after next (sym alone i)))
-    (pass-alone s.inner.accepts s.inner.stage event)
-
-limit-plain : {S : Type 0} (law : SessionLaw S) (s : Limited (Gated S))
-    → SendsPlainExchanges (gated_law law) s.inner
-    → SendsPlainExchanges (limited_law (gated_law law)) s
-limit-plain law s sends [] event on =
-    let plain = sends [] event refl in (
-      limited-exchange s.left (is_pass event) (turn (gated_law law) s.inner event) plain.0,
-      limited-all IsReadable s.left (is_pass event) (turn (gated_law law) s.inner event)
-          (final too_many refl).0 plain.1,
-    )
-limit-plain law s sends (past ∷ before) event on =
-    let next = after (limited_law (gated_law law)) s past in
-    let goes_on = or_parts ((limited_law (gated_law law)).done next)
-    (ends (limited_law (gated_law law)) next before) on in
-    limit-plain law next (sends-later (gated_law law) s.inner next.inner past sends
-    (limit-moves law s past)
-    (or_parts (next.left == 0) ((gated_law law).done next.inner) goes_on.0).1) before event
-    goes_on.1
 
 -- the replies to the events of a run
 run-plain : {S : Type 0} (law : SessionLaw S) (s : S) (events : List FtpEvent)
@@ -376,28 +312,12 @@ module _ {S : Type 0} (law : SessionLaw S) (first : S) (accepts : Accounts)
             (sym same) (after_login [] first run (cut_reads read) refl parts);
       }
 
-guarded-plain : {S : Type 0} (law : SessionLaw S) (accepts : Accounts) (failures : Option ℕ)
-    (inner : S) → SendsPlainExchanges law inner
-    → SendsPlainExchanges (guarded_law failures law) (guarded failures accepts inner)
-guarded-plain law accepts None inner sends = gate-plain law (closed accepts inner) sends
-guarded-plain law accepts (Some left) inner sends =
-    limit-plain law (limited_to left (closed accepts inner))
-    (gate-plain law (closed accepts inner) sends)
-
 pub guarded-members-alone : {S : Type 0} (law : SessionLaw S) (inner : S)
     → SendsPlainExchanges law inner
     → (limit : Option ℕ) (accepts : Accounts) (failures : Option ℕ) (input : Bytes)
     → MembersAlone limit accepts input
-    (text_for limit (guarded_law failures law) (guarded failures accepts inner) input)
+    (text_for limit (gated_law law) (guarded failures accepts inner) input)
 guarded-members-alone law inner sends limit accepts failures input =
-    members-alone (guarded_law failures law) (guarded failures accepts inner) accepts
-    (guarded_serves-members law accepts failures inner)
-    (guarded-plain law accepts failures inner sends) limit input
-
-pub limit-members-alone : {S : Type 0} (law : SessionLaw S) (inner : S)
-    → SendsPlainExchanges law inner
-    → (limit : Option ℕ) (accepts : Accounts) (left : ℕ) (input : Bytes)
-    → MembersAlone limit accepts input
-    (text_for limit (limited_law (gated_law law)) (limited_to left (closed accepts inner)) input)
-limit-members-alone law inner sends limit accepts left =
-    guarded-members-alone law inner sends limit accepts (Some left)
+    members-alone (gated_law law) (guarded failures accepts inner) accepts
+    (serves-members law accepts failures inner)
+    (gate-plain law (guarded failures accepts inner) sends) limit input

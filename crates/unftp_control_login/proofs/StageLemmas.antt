@@ -1,5 +1,5 @@
 -- How far a login has come, and the events that it comes from.
-use Rattle.std.proofs.Common.{◌≡◌, Bool, true, false, cond, IsTrue, List, [], ◌∷◌, ◌++◌, refl, sym, ap, ◌∙◌, subst, append_assoc}
+use Rattle.std.proofs.Common.{◌≡◌, ℕ, Bool, true, false, ◌&&◌, cond, Option, IsTrue, List, [], ◌∷◌, ◌++◌, refl, sym, ap, ◌∙◌, subst, append_assoc}
 use Rattle.std.specs.Prelude.{if◌then◌else◌}
 use Rattle.std.specs.List.{AllByRecursion}
 use Rattle.std.proofs.lemmas.List.{append-nil}
@@ -12,7 +12,8 @@ use Rattle.unftp_control_defs.proofs.ExchangeLemmas.{all-append}
 use Rattle.unftp_control_login.specs.declared.stage.Stage.{Stage}
 use Rattle.unftp_control_login.specs.declared.stage.Stage.TheVariants.{NoName, Named, LoggedIn}
 use Rattle.unftp_control_login.specs.Login.{Accounts, GaveName, IsLoggedIn, KeepsLogin, KeepsName, flushes_login, is_login, needs_login}
-use Rattle.unftp_control_login.specs.Gate.{Answers, Gated, PassesOn, decided, gated_law, is_barred, is_logged_in, login_needed, passed_steps, stage_after}
+use Rattle.unftp_control_login.specs.Gate.{Answers, Decision, Gated, LogsIn, PassesOn, decided, decided_by_password, decides, gated_law, is_barred, is_logged_in, limited, login_needed, name_needed, not_accepted, passed_steps, stage_after}
+use Rattle.unftp_control_login.specs.LoginLimit.{is_last, is_pass, too_many}
 use Rattle.unftp_control_login.proofs.StepLemmas.{Steps, after-lifted, lifted}
 
 abbrev pub stage_after_all : Accounts → Stage → List FtpEvent → Stage
@@ -206,3 +207,33 @@ pub needs-other : (event : FtpEvent) → IsTrue (needs_login event) → is_login
 needs-other (Command (User name)) needs = absurd (false≢true needs)
 needs-other (Command (Pass password)) needs = absurd (false≢true needs)
 needs-other event needs = refl
+
+-- The limit changes no decision but at a PASS.
+pub no-pass : (event : FtpEvent) → is_login event ≡ false → is_pass event ≡ false
+no-pass (Command (Pass password)) other = absurd (false≢true (sym other))
+no-pass event other = refl
+
+limited-no-pass : (left : Option ℕ) (decision : Decision) → limited left false decision ≡ decision
+limited-no-pass left (Answers reply) = refl
+limited-no-pass left decision = refl
+
+pub decides-other : {S : Type 0} (s : Gated S) (event : FtpEvent) → is_login event ≡ false
+    → {decision : Decision} → decided s.accepts s.stage event ≡ decision → decides s event ≡ decision
+decides-other s event other {decision} is =
+    (λ i. limited s.left (no-pass event other i) (is i)) ∙ limited-no-pass s.left decision
+
+-- What a gate decides at a PASS.
+pub by-password : (P : Decision → Type 0) → ((name : Bytes) → P (LogsIn name))
+    → P (Answers not_accepted) → P (Answers name_needed) → P (Answers too_many)
+    → (accepts : Accounts) (left : Option ℕ) (stage : Stage) (password : Bytes)
+    → P (limited left true (decided_by_password accepts stage password))
+by-password P logs refused needs last accepts left stage password = by_stage stage where
+  by_last : (decision : Decision) → P decision
+      → P (cond (is_last left) (Answers too_many) decision)
+  by_last decision own = cond_both (is_last left) (Answers too_many) decision P (λ _. last) (λ _. own)
+
+  by_stage : (stage : Stage) → P (limited left true (decided_by_password accepts stage password))
+  by_stage (Named name) = cond_both (accepts name password) (LogsIn name) (Answers not_accepted)
+      (λ decision. P (limited left true decision)) (λ _. logs name)
+      (λ _. by_last (Answers not_accepted) refused)
+  by_stage stage = by_last (Answers name_needed) needs

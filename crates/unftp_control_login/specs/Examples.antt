@@ -6,7 +6,6 @@ use Rattle.unftp_control_defs.specs.Events.{FtpEvent, Command, out_of_memory}
 use Rattle.unftp_control_defs.specs.FtpReply.{FtpReply, Nothing, CodeAndMsg}
 use Rattle.unftp_control_defs.specs.Run.{SessionLaw, as_session}
 use Rattle.unftp_control_login.specs.Login.{Accounts}
-use Rattle.unftp_control_login.specs.Gate.{not_accepted}
 use Rattle.unftp_control_login.specs.HandlerCalls.{Call, CallState}
 use Rattle.unftp_control_login.specs.declared.inner.Inner.{Inner}
 
@@ -97,9 +96,6 @@ opens_and_then later = record {
   done = λ _. false;
 }
 
--- one final reply, and two that report a failure
+-- one final reply
 abbrev pub transferring : SessionLaw (List FtpReply)
 transferring = opens_and_then (here ∷ [])
-
-abbrev pub refusing : SessionLaw (List FtpReply)
-refusing = opens_and_then (not_accepted ∷ not_accepted ∷ [])

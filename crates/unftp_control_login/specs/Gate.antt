@@ -1,5 +1,5 @@
 -- A login gate before a handler: what it answers itself, and what it passes on to the handler.
-use Rattle.std.specs.Prelude.{List, [], ◌∷◌, ◌++◌, map, Bool, true, false, if◌then◌else◌, ◌&&◌, ◌||◌, not, Some, codes}
+use Rattle.std.specs.Prelude.{List, [], ◌∷◌, ◌++◌, map, Bool, true, false, if◌then◌else◌, ◌&&◌, ◌||◌, not, ℕ, Option, Some, None, codes}
 use Rattle.unftp_control_defs.specs.Bytes.{Bytes}
 use Rattle.unftp_control_defs.specs.FtpCommand.{User, Pass}
 use Rattle.unftp_control_defs.specs.Events.{FtpEvent, Command, is_quit}
@@ -8,6 +8,7 @@ use Rattle.unftp_control_defs.specs.Run.{SessionLaw, after}
 use Rattle.unftp_control_login.specs.declared.stage.Stage.{Stage}
 use Rattle.unftp_control_login.specs.declared.stage.Stage.TheVariants.{NoName, Named, LoggedIn}
 use Rattle.unftp_control_login.specs.Login.{Accounts, flushes_login, needs_login}
+use Rattle.unftp_control_login.specs.LoginLimit.{is_last, is_pass, is_used_up, one_fewer, too_many}
 use Rattle.unftp_control_login.specs.HandlerCalls.{Asks, AsksFurther, Call, FailsIn, Passes, Plan, makes, tells}
 
 -- its replies (RFC 959, section 5.4)
@@ -62,6 +63,18 @@ decided accepts stage (Command (Pass password)) = decided_by_password accepts st
 decided accepts stage event =
     if is_barred stage event then Answers login_needed else PassesOn event
 
+-- A PASS that the gate answers itself is a login that fails. The last that may has another answer.
+abbrev pub is_refusal : Bool → Decision → Bool
+is_refusal at_pass (Answers reply) = at_pass
+is_refusal at_pass decision = false
+
+abbrev pub limited : Option ℕ → Bool → Decision → Decision
+limited left at_pass decision =
+    if is_refusal at_pass decision && is_last left then Answers too_many else decision
+
+abbrev pub left_after : Option ℕ → Bool → Decision → Option ℕ
+left_after left at_pass decision = if is_refusal at_pass decision then one_fewer left else left
+
 abbrev pub is_passed : Decision → Bool
 is_passed (PassesOn event) = true
 is_passed decision = false
@@ -96,14 +109,19 @@ abbrev pub questions : Stage → FtpEvent → List Call
 questions (Named name) (Command (Pass password)) = Asks name password ∷ []
 questions stage event = []
 
--- The accounts, which stay; how far the login has come; whether QUIT has come; whether the event at
--- hand was passed on; and what the handler keeps.
+-- The accounts, which stay; how many more logins may fail, if they are limited; how far the login
+-- has come; whether QUIT has come; whether the event at hand was passed on; and what the handler
+-- keeps.
 pub record Gated (S : Type 0) : Type 0 where
   pub accepts : Accounts
+  pub left : Option ℕ
   pub stage : Stage
   pub quit : Bool
   pub passed : Bool
   pub inner : S
+
+abbrev pub decides : {S : Type 0} → Gated S → FtpEvent → Decision
+decides s event = limited s.left (is_pass event) (decided s.accepts s.stage event)
 
 -- the handler's replies are the gate's, of which nothing else changes
 abbrev pub passed_steps : {S : Type 0} → Gated S → List (FtpReply × S) → List (FtpReply × Gated S)
@@ -115,21 +133,34 @@ further_calls s = if s.passed then (AsksFurther, s.inner) ∷ [] else []
 
 abbrev pub gated_law : {S : Type 0} → SessionLaw S → SessionLaw (Gated S)
 gated_law law = record {
-  says = λ s event. reply_by law s.inner (decided s.accepts s.stage event);
+  says = λ s event. reply_by law s.inner (decides s event);
   next = λ s event. record {
     accepts = s.accepts;
+    left = left_after s.left (is_pass event) (decides s event);
     stage = stage_after s.accepts s.stage event;
     quit = s.quit || is_quit event;
-    passed = is_passed (decided s.accepts s.stage event);
-    inner = state_by law s.inner (decided s.accepts s.stage event);
+    passed = is_passed (decides s event);
+    inner = state_by law s.inner (decides s event);
   };
   more = λ s. if s.passed then passed_steps s (law.more s.inner) else [];
-  may_fail = λ s event. FailsIn law (calls_by law s.inner (decided s.accepts s.stage event));
+  may_fail = λ s event. FailsIn law (calls_by law s.inner (decides s event));
   may_break = λ s. FailsIn law (further_calls s);
-  done = λ s. s.quit || law.done s.inner;
+  done = λ s. (s.quit || is_used_up s.left) || law.done s.inner;
 }
 
--- a gate before the first event
+-- a gate before the first event, and one of which so many logins may fail
 abbrev pub closed : {S : Type 0} → Accounts → S → Gated S
-closed accepts inner =
-    record { accepts = accepts; stage = NoName; quit = false; passed = false; inner = inner }
+closed accepts inner = record {
+  accepts = accepts;
+  left = None;
+  stage = NoName;
+  quit = false;
+  passed = false;
+  inner = inner;
+}
+
+abbrev pub limited_to : {S : Type 0} → ℕ → Gated S → Gated S
+limited_to left s = record s { left = Some left }
+
+abbrev pub unlimited : {S : Type 0} → Gated S → Gated S
+unlimited s = record s { left = None }

@@ -6,13 +6,14 @@ use Rattle.unftp_control_message.specs.declared.reply.error.ControlChanError.{Co
 use Rattle.unftp_control_login.specs.Login.{Accounts}
 use Rattle.unftp_control_login.specs.HandlerCalls.{CallsMade}
 use Rattle.unftp_control_login.specs.CallsOf.{calls_of}
-use Rattle.unftp_control_login.specs.Gate.{Gated, calls_by, decided, further_calls}
+use Rattle.unftp_control_login.specs.Gate.{Gated, calls_by, decides, further_calls}
 use Rattle.unftp_control_login.specs.declared.inner.Inner.{Inner}
 use Rattle.unftp_control_login.specs.declared.gate.Gate.{Gate}
 
 abbrev pub gated : {A H S : Type 0} → (A → Accounts) → (H → S) → Gate A H → Gated S
 gated accepts state gate = record {
   accepts = accepts gate.accounts.accounts;
+  left = gate.limit.left;
   stage = gate.stage;
   quit = gate.quit;
   passed = gate.passed;
@@ -23,7 +24,7 @@ gated accepts state gate = record {
 abbrev pub GateCalled : {H S T : Type 0} → (H → ℕ) → SessionLaw S → Gated S → Inner H → FtpEvent
     → Inner H → Result T ControlChanError → Type 0
 GateCalled failures law s before event after =
-    CallsMade law (calls_by law s.inner (decided s.accepts s.stage event))
+    CallsMade law (calls_by law s.inner (decides s event))
     (calls_of failures before) (calls_of failures after)
 
 -- After it the handler was asked for its next reply, where the event was passed on.

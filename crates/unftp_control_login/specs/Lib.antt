@@ -5,6 +5,5 @@ pub mod CallsOf
 pub mod Gate
 pub mod GateState
 pub mod LoginLimit
-pub mod LimitState
 pub mod Promises
 pub mod Examples

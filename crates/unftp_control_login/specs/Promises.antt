@@ -14,31 +14,28 @@ use Rattle.unftp_control_defs.specs.Turns.{IsExchange, cut_reads}
 use Rattle.unftp_control_serve.specs.Endings.{Snapshot, RunFailed}
 use Rattle.unftp_control_serve.specs.declared.error.ServeError.{ServeError}
 use Rattle.unftp_control_login.specs.Login.{Accounts, GaveName, IsLoggedIn, needs_login}
-use Rattle.unftp_control_login.specs.HandlerCalls.{Call, calls_in, makes}
-use Rattle.unftp_control_login.specs.Gate.{Gated, all_calls_by, closed, decided, gated_law, login_needed}
-use Rattle.unftp_control_login.specs.LoginLimit.{Limited, is_pass, last_reply, limited_law, limited_to}
+use Rattle.unftp_control_login.specs.HandlerCalls.{Call, calls_in}
+use Rattle.unftp_control_login.specs.Gate.{Gated, all_calls_by, closed, decides, gated_law, login_needed}
+use Rattle.unftp_control_login.specs.LoginLimit.{is_pass}
 
 -- The event after these has one reply, which is 530, and the handler doesn't receive it.
-abbrev pub IsTurnedAway : {S : Type 0} → SessionLaw S → Accounts → S → List FtpEvent → FtpEvent
-    → Type 0
-IsTurnedAway law accepts inner before event =
-    let s = last_state (gated_law law) (closed accepts inner) before in
+abbrev pub IsTurnedAway : {S : Type 0} → SessionLaw S → Gated S → List FtpEvent → FtpEvent → Type 0
+IsTurnedAway law first before event =
+    let s = last_state (gated_law law) first before in
     (replies_to (gated_law law) s event ≡ login_needed ∷ [])
     × ((after (gated_law law) s event).inner ≡ s.inner)
 
 -- The event after these reaches the handler, whose replies are the replies.
-abbrev pub ReachesHandler : {S : Type 0} → SessionLaw S → Accounts → S → List FtpEvent → FtpEvent
-    → Type 0
-ReachesHandler law accepts inner before event =
-    let s = last_state (gated_law law) (closed accepts inner) before in
+abbrev pub ReachesHandler : {S : Type 0} → SessionLaw S → Gated S → List FtpEvent → FtpEvent → Type 0
+ReachesHandler law first before event =
+    let s = last_state (gated_law law) first before in
     (replies_to (gated_law law) s event ≡ replies_to law s.inner event)
     × ((after (gated_law law) s event).inner ≡ after law s.inner event)
 
 -- After these, this password has the handler receive USER with this name.
-abbrev pub LearnsName : {S : Type 0} → SessionLaw S → Accounts → S → List FtpEvent → Bytes → Bytes
-    → Type 0
-LearnsName law accepts inner before name password =
-    let s = last_state (gated_law law) (closed accepts inner) before in
+abbrev pub LearnsName : {S : Type 0} → SessionLaw S → Gated S → List FtpEvent → Bytes → Bytes → Type 0
+LearnsName law first before name password =
+    let s = last_state (gated_law law) first before in
     (after (gated_law law) s (Command (Pass password))).inner
     ≡ after law s.inner (Command (User name))
 
@@ -125,33 +122,11 @@ FailsAlike {S = S} limit law s input other =
 
 -- what a gate calls at an event, beside the accounts
 abbrev pub gate_calls : {S : Type 0} → SessionLaw S → Gated S → FtpEvent → List Call
-gate_calls law s event =
-    calls_in (all_calls_by law s.inner (decided s.accepts s.stage event))
+gate_calls law s event = calls_in (all_calls_by law s.inner (decides s event))
 
--- What a gate and the limit before it call: a PASS has one reply of the gate.
-abbrev pub limit_calls : {S : Type 0} → SessionLaw S → Limited (Gated S) → FtpEvent → List Call
-limit_calls law s event = gate_calls law s.inner event ++ calls_in (makes s.inner.inner
-    (last_reply s.left (is_pass event) ((gated_law law).says s.inner event)))
-
--- A gate, and before it a limit on the logins that may fail, if there is one.
-abbrev pub Guarded : Option ℕ → Type 0 → Type 0
-Guarded None S = Gated S
-Guarded (Some left) S = Limited (Gated S)
-
-abbrev pub guarded_law : {S : Type 0} → (failures : Option ℕ) → SessionLaw S
-    → SessionLaw (Guarded failures S)
-guarded_law None law = gated_law law
-guarded_law (Some left) law = limited_law (gated_law law)
-
-abbrev pub guarded_calls : {S : Type 0} → (failures : Option ℕ) → SessionLaw S
-    → Guarded failures S → FtpEvent → List Call
-guarded_calls None law = gate_calls law
-guarded_calls (Some left) law = limit_calls law
-
--- before the first event
-abbrev pub guarded : {S : Type 0} → (failures : Option ℕ) → Accounts → S → Guarded failures S
-guarded None accepts inner = closed accepts inner
-guarded (Some left) accepts inner = limited_to left (closed accepts inner)
+-- a gate before the first event, of which so many logins may fail, if they are limited
+abbrev pub guarded : {S : Type 0} → Option ℕ → Accounts → S → Gated S
+guarded failures accepts inner = record (closed accepts inner) { left = failures }
 
 -- what is called in the run over an input, event for event
 abbrev pub calls_for : {S : Type 0} → Option ℕ → (S → FtpEvent → List Call) → SessionLaw S → S

@@ -15,12 +15,11 @@ ghost use Rattle.unftp_control_message.specs.declared.reply.error.ControlChanErr
 ghost use Rattle.unftp_control_login.specs.Login.{GaveName, HasLoggedIn, IsLoggedIn, flushes_login, needs_login};
 ghost use Rattle.unftp_control_login.specs.declared.stage.Stage.TheVariants.{LoggedIn, Named, NoName};
 ghost use Rattle.unftp_control_login.specs.HandlerCalls.{AllCalled, Asks, AsksFurther, CallsMade, FailedCall, Makes, Passes, tells};
-ghost use Rattle.unftp_control_login.specs.Gate.{Answers, LogsIn, PassesOn, calls_by, closed, gated_law, logged_in, login_needed, name_needed, not_accepted, password_needed, questions};
+ghost use Rattle.unftp_control_login.specs.Gate.{Answers, LogsIn, PassesOn, calls_by, closed, gated_law, limited_to, logged_in, login_needed, name_needed, not_accepted, password_needed, questions};
 ghost use Rattle.unftp_control_login.specs.GateState.{GateCalled};
-ghost use Rattle.unftp_control_login.specs.LimitState.{LimitCalled};
-ghost use Rattle.unftp_control_login.specs.LoginLimit.{EndsWith, failed_in_run, limited_law, limited_to, too_many};
-ghost use Rattle.unftp_control_login.specs.Promises.{AgreeOnAll, AllLookAlike, DifferInPasswords, FailsAlike, IsRefusedLogin, IsTurnedAway, LearnsName, LooksAlike, MembersAlone, NoFailure, PasswordFits, ReachesHandler, SendsPlainExchanges, ServesMembersAlone, gate_calls, limit_calls};
-ghost use Rattle.unftp_control_login.specs.Examples.{anna, anna_and_ben, answers_once, ben, counting, here, inner_with, login, only_anna, opened, pass, refusing, secret, silent, so_far, transferring, user, wrong};
+ghost use Rattle.unftp_control_login.specs.LoginLimit.{EndsWith, failed_in_run, too_many};
+ghost use Rattle.unftp_control_login.specs.Promises.{AgreeOnAll, AllLookAlike, DifferInPasswords, FailsAlike, IsRefusedLogin, IsTurnedAway, LearnsName, LooksAlike, MembersAlone, NoFailure, PasswordFits, ReachesHandler, SendsPlainExchanges, ServesMembersAlone, gate_calls};
+ghost use Rattle.unftp_control_login.specs.Examples.{anna, anna_and_ben, answers_once, ben, counting, here, inner_with, login, only_anna, opened, pass, secret, silent, so_far, transferring, user, wrong};
 
 /// Which events need a login, and which undo one.
 pub fn logins_are_needed()
@@ -72,10 +71,8 @@ pub fn follow_ups_pass()
         (Command Pwd ∷ user anna ∷ pass secret ∷ Command Pwd ∷ [])
         ≡ login_needed ∷ password_needed ∷ logged_in ∷ opened ∷ here ∷ [] }
     ensures dropped { (last_state (gated_law transferring) (closed only_anna []) login).inner ≡ [] }
-    ensures turned_away { IsTurnedAway transferring only_anna [] [] (Command Pwd) }
+    ensures turned_away { IsTurnedAway transferring (closed only_anna []) [] (Command Pwd) }
     ensures served { ServesMembersAlone only_anna transferring [] → ⊥ }
-    ensures limited { replies (limited_law transferring) (limited_to 2 [])
-        (Command Noop ∷ pass wrong ∷ []) ≡ opened ∷ here ∷ opened ∷ here ∷ [] }
 {}
 
 /// What the accounts are asked: only about a password, of the name before it, and once.
@@ -87,7 +84,7 @@ pub fn accounts_are_asked()
         × (questions LoggedIn (pass secret) ≡ []) }
 {}
 
-/// What a gate and a limit call: the handler receives an event once, and is then asked for each
+/// What a gate calls: the handler receives an event once, and is then asked for each
 /// reply that follows; and memory is asked for one reply.
 pub fn calls_are_made()
     ensures refused_login { gate_calls counting (last_state (gated_law counting)
@@ -99,8 +96,8 @@ pub fn calls_are_made()
         ≡ Passes (Command Noop) ∷ AsksFurther ∷ [] }
     ensures follow_ups { gate_calls transferring (closed only_anna []) (Command Noop)
         ≡ Passes (Command Noop) ∷ AsksFurther ∷ AsksFurther ∷ [] }
-    ensures last { limit_calls counting (limited_to 1 (closed only_anna 0)) (pass wrong)
-        ≡ Makes name_needed ∷ Makes too_many ∷ [] }
+    ensures last { gate_calls counting (limited_to 1 (closed only_anna 0)) (pass wrong)
+        ≡ Makes too_many ∷ [] }
     ensures run { at_each (gate_calls counting) (gated_law counting) (closed only_anna 0)
         (user anna ∷ pass wrong ∷ [])
         ≡ (Makes password_needed ∷ []) ∷ (Makes not_accepted ∷ []) ∷ [] }
@@ -158,37 +155,25 @@ pub fn a_gate_has_called()
     ensures failed { (error : RustError) → fault_of error ≡ out_of_memory
         → GateCalled {T = ℕ} (λ failed. failed) counting (closed only_anna 0) (inner_with [] 0 0)
         (Command Noop) (inner_with (Passes (Command Noop) ∷ []) 0 1) (Err error) }
+    ensures last { GateCalled {T = ℕ} (λ failed. failed) counting
+        (limited_to 1 (closed only_anna 0)) (inner_with [] 0 0) (pass wrong)
+        (inner_with (Makes too_many ∷ []) 0 0) (Ok 0) }
+    ensures not_last { ¬ GateCalled {T = ℕ} (λ failed. failed) counting
+        (limited_to 2 (closed only_anna 0)) (inner_with [] 0 0) (pass wrong)
+        (inner_with (Makes too_many ∷ []) 0 0) (Ok 0) }
     ensures other_fault { (error : RustError) → fault_of error ≡ line_too_long
         → ¬ GateCalled {T = ℕ} (λ failed. failed) counting (closed only_anna 0) (inner_with [] 0 0)
         (Command Noop) (inner_with (Passes (Command Noop) ∷ []) 0 1) (Err error) }
 {}
 
-/// What a limit has called for the first reply to an event: the handler, and memory for the 421.
-pub fn a_limit_has_called()
-    ensures last { LimitCalled {T = ℕ} (λ failed. failed) (gated_law counting)
-        (limited_to 1 (closed only_anna 0)) (inner_with [] 0 0) (pass wrong)
-        (inner_with (Passes (pass wrong) ∷ Makes too_many ∷ []) 0 0) (Ok 0) }
-    ensures not_last { ¬ LimitCalled {T = ℕ} (λ failed. failed) (gated_law counting)
-        (limited_to 2 (closed only_anna 0)) (inner_with [] 0 0) (pass wrong)
-        (inner_with (Passes (pass wrong) ∷ Makes too_many ∷ []) 0 0) (Ok 0) }
-    ensures refused { (error : RustError) → fault_of error ≡ out_of_memory
-        → LimitCalled {T = ℕ} (λ failed. failed) (gated_law counting)
-        (limited_to 1 (closed only_anna 0)) (inner_with [] 0 0) (pass wrong)
-        (inner_with (Passes (pass wrong) ∷ Makes too_many ∷ []) 1 0) (Err error) }
-    ensures other_fault { (error : RustError) → fault_of error ≡ line_too_long
-        → ¬ LimitCalled {T = ℕ} (λ failed. failed) (gated_law counting)
-        (limited_to 1 (closed only_anna 0)) (inner_with [] 0 0) (Command Noop)
-        (inner_with (Passes (Command Noop) ∷ []) 0 1) (Err error) }
-{}
-
 /// Who is turned away, and who reaches the handler.
 pub fn events_are_gated()
-    ensures turned_away { IsTurnedAway counting only_anna 0 (user anna ∷ []) (Command Pwd) }
-    ensures member { IsTurnedAway counting only_anna 0 login (Command Pwd) → ⊥ }
-    ensures reaches { ReachesHandler counting only_anna 0 login (Command Pwd) }
-    ensures stranger { ReachesHandler counting only_anna 0 [] (Command Pwd) → ⊥ }
-    ensures learns { LearnsName counting only_anna 0 (user anna ∷ []) anna secret }
-    ensures no_name { LearnsName counting only_anna 0 (user anna ∷ []) anna wrong → ⊥ }
+    ensures turned_away { IsTurnedAway counting (closed only_anna 0) (user anna ∷ []) (Command Pwd) }
+    ensures member { IsTurnedAway counting (closed only_anna 0) login (Command Pwd) → ⊥ }
+    ensures reaches { ReachesHandler counting (closed only_anna 0) login (Command Pwd) }
+    ensures stranger { ReachesHandler counting (closed only_anna 0) [] (Command Pwd) → ⊥ }
+    ensures learns { LearnsName counting (closed only_anna 0) (user anna ∷ []) anna secret }
+    ensures no_name { LearnsName counting (closed only_anna 0) (user anna ∷ []) anna wrong → ⊥ }
 {}
 
 /// What serving only members means, of events and of bytes.
@@ -237,21 +222,17 @@ pub fn passwords_look_alike()
 
 /// What a limit of two failed logins answers: the second is the last.
 pub fn a_limit_counts()
-    ensures replies { replies (limited_law (gated_law counting)) (limited_to 2 (closed only_anna 0))
+    ensures replies { replies (gated_law counting) (limited_to 2 (closed only_anna 0))
         (user anna ∷ pass wrong ∷ user anna ∷ pass secret ∷ pass wrong ∷ [])
         ≡ password_needed ∷ not_accepted ∷ password_needed ∷ logged_in ∷ too_many ∷ [] }
-    ensures count { failed_in_run (limited_law (gated_law counting))
+    ensures count { failed_in_run (gated_law counting)
         (limited_to 2 (closed only_anna 0))
         (pass wrong ∷ user anna ∷ pass secret ∷ pass wrong ∷ pass wrong ∷ []) ≡ 2 }
-    ensures done { ((limited_law counting).done (limited_to 0 0) ≡ true)
-        × ((limited_law counting).done (limited_to 1 9) ≡ true) }
-    ensures last { EndsWith too_many (limited_law (gated_law counting))
+    ensures done { ((gated_law counting).done (limited_to 0 (closed only_anna 0)) ≡ true)
+        × ((gated_law counting).done (limited_to 1 (closed only_anna 9)) ≡ true) }
+    ensures last { EndsWith too_many (gated_law counting)
         (limited_to 1 (closed only_anna 0)) (Command Noop ∷ pass wrong ∷ Command Noop ∷ []) }
-    ensures not_last { EndsWith too_many (limited_law (gated_law counting))
+    ensures not_last { EndsWith too_many (gated_law counting)
         (limited_to 2 (closed only_anna 0)) (pass wrong ∷ []) → ⊥ }
     ensures not_ended { EndsWith here counting 0 (Command Noop ∷ []) → ⊥ }
-    ensures preliminary { replies (limited_law refusing) (limited_to 2 [])
-        (pass wrong ∷ Command Noop ∷ pass wrong ∷ [])
-        ≡ opened ∷ not_accepted ∷ not_accepted ∷ opened ∷ not_accepted ∷ not_accepted ∷ opened
-        ∷ too_many ∷ [] }
 {}

@@ -12,12 +12,14 @@ ghost use Rattle.unftp_control_message.specs.ReplyMeaning.{number_of, reply_of};
 ghost use Rattle.unftp_control_login.specs.Login.{flushes_login, is_login, needs_login};
 ghost use Rattle.unftp_control_login.specs.HandlerCalls.{CallsMade, Passes};
 ghost use Rattle.unftp_control_login.specs.CallsOf.{calls_of};
-ghost use Rattle.unftp_control_login.specs.Gate.{Answers, Decision, Gated, LogsIn, calls_by, gated_law, is_barred, is_logged_in, logged_in, questions};
+ghost use Rattle.unftp_control_login.specs.Gate.{Answers, Decision, Gated, LogsIn, calls_by, gated_law, is_barred, is_logged_in, limited, logged_in, questions};
 ghost use Rattle.unftp_control_login.specs.GateState.{GateAsked, GateCalled, gated};
+ghost use Rattle.unftp_control_login.specs.LoginLimit.{is_last, one_fewer, too_many};
 
 use crate::accounts::Accounts;
 use crate::asked::AskedAccounts;
 use crate::inner::Inner;
+use crate::limit::LoginLimit;
 use crate::stage::Stage;
 use bytes::Bytes;
 use std::alloc::Global;
@@ -41,10 +43,14 @@ use unftp_control_serve::{Event, Session};
 ///   logged in. It is asked for all its replies to that, and they are dropped. It receives USER at
 ///   no other time, and never PASS.
 /// - A command that is passed on has the handler's replies, and no other has more than one reply.
-/// - It is done after QUIT, and where the handler is.
+/// - With a limit it counts the logins that fail: each PASS that it answers 530 or 503. The last one
+///   that may fail is answered 421, and ends the session (RFC 959, section 5.4). A login that
+///   succeeds doesn't change the count.
+/// - It is done after QUIT, after that 421, and where the handler is.
 #[derive(Drop)]
 pub struct Gate<A: Accounts, H: Session> {
     accounts: AskedAccounts<A>,
+    limit: LoginLimit,
     stage: Stage,
     quit: bool,
     passed: bool,
@@ -52,10 +58,11 @@ pub struct Gate<A: Accounts, H: Session> {
 }
 
 impl<A: Accounts, H: Session> Gate<A, H> {
-    /// A gate before the first event, over this handler.
+    /// A gate before the first event, over this handler. Any number of logins may fail.
     pub fn new(accounts: A, inner: H) -> Gate<A, H>
         ensures accounts { result.accounts.accounts ≡ accounts }
         ensures questions { result.accounts.questions ≡ [] }
+        ensures left { result.limit.left ≡ None }
         ensures stage { result.stage ≡ Stage.NoName }
         ensures quit { result.quit ≡ false }
         ensures passed { result.passed ≡ false }
@@ -64,11 +71,19 @@ impl<A: Accounts, H: Session> Gate<A, H> {
     {
         Gate {
             accounts: AskedAccounts::new(accounts),
+            limit: LoginLimit::none(),
             stage: Stage::NoName,
             quit: false,
             passed: false,
             inner: Inner::new(inner),
         }
+    }
+
+    /// The same gate, of which no more logins may fail than this.
+    pub fn with_limit(self, limit: LoginLimit) -> Gate<A, H>
+        ensures { result ≡ record self { limit = limit } }
+    {
+        Gate { limit, ..self }
     }
 
     /// Answers an event itself.
@@ -86,10 +101,39 @@ impl<A: Accounts, H: Session> Gate<A, H> {
             (calls_by (H.law said) (H.state self.old.inner.handler) decision)
             (calls_of H.failures self.old.inner) (calls_of H.failures self.new.inner) result }
         ensures kept { (self.new.accounts ≡ self.old.accounts)
+            × (self.new.limit ≡ self.old.limit) × (self.new.stage ≡ self.old.stage)
+            × (self.new.quit ≡ self.old.quit) × (self.new.passed ≡ self.old.passed) }
+    {
+        self.inner.own_reply(alloc, code, text)
+    }
+
+    /// Answers a password by which the login fails: the last that may fail by 421.
+    fn refuse(
+        &mut self,
+        alloc: Global,
+        code: ReplyCode,
+        text: &str,
+    ) -> Result<Reply, ControlChanError>
+        ensures says { IfOk result (λ reply. reply_of reply ≡ (if is_last self.old.limit.left
+            then too_many else CodeAndMsg (number_of code) text.now)) }
+        ensures handler { self.new.inner.handler ≡ self.old.inner.handler }
+        ensures calls { (said : List H.Said) → CallsMade (H.law said)
+            (calls_by (H.law said) (H.state self.old.inner.handler)
+            (limited self.old.limit.left true (Answers (CodeAndMsg (number_of code) text.now))))
+            (calls_of H.failures self.old.inner) (calls_of H.failures self.new.inner) result }
+        ensures left { self.new.limit.left ≡ one_fewer self.old.limit.left }
+        ensures kept { (self.new.accounts ≡ self.old.accounts)
             × (self.new.stage ≡ self.old.stage) × (self.new.quit ≡ self.old.quit)
             × (self.new.passed ≡ self.old.passed) }
     {
-        self.inner.own_reply(alloc, code, text)
+        if self.limit.count() {
+            return self.answer(
+                alloc,
+                ReplyCode::ServiceNotAvailable,
+                "Too many failed logins, closing control connection",
+            );
+        }
+        self.answer(alloc, code, text)
     }
 
     /// Takes a password for the name that was given.
@@ -116,11 +160,11 @@ impl<A: Accounts, H: Session> Gate<A, H> {
             Stage::Named(name) => name,
             other => {
                 self.stage = other;
-                return self.answer(alloc, ReplyCode::BadCommandSequence, "Send USER first");
+                return self.refuse(alloc, ReplyCode::BadCommandSequence, "Send USER first");
             }
         };
         if !self.accounts.ask(username.as_slice(), password) {
-            return self.answer(alloc, ReplyCode::NotLoggedIn, "Login incorrect");
+            return self.refuse(alloc, ReplyCode::NotLoggedIn, "Login incorrect");
         }
         self.admit(alloc, username)
     }
@@ -140,7 +184,8 @@ impl<A: Accounts, H: Session> Gate<A, H> {
         ensures stage { self.new.stage
             ≡ (if is_ok result then Stage.LoggedIn else self.old.stage) }
         ensures kept { (self.new.accounts ≡ self.old.accounts)
-            × (self.new.quit ≡ self.old.quit) × (self.new.passed ≡ self.old.passed) }
+            × (self.new.limit ≡ self.old.limit) × (self.new.quit ≡ self.old.quit)
+            × (self.new.passed ≡ self.old.passed) }
     {
         let user = Event::Command(Command::User { username });
         self.inner.tell(alloc, user)?;
@@ -205,7 +250,8 @@ impl<A: Accounts, H: Session> Gate<A, H> {
         ensures stage { self.new.stage
             ≡ (if flushes_login (event_meant event) then Stage.NoName else self.old.stage) }
         ensures quit { self.new.quit ≡ (self.old.quit || is_quit (event_meant event)) }
-        ensures kept { (self.new.accounts ≡ self.old.accounts) × (self.new.passed ≡ true) }
+        ensures kept { (self.new.accounts ≡ self.old.accounts)
+            × (self.new.limit ≡ self.old.limit) × (self.new.passed ≡ true) }
     {
         self.passed = true;
         if flushes_login(&event) {
@@ -300,7 +346,8 @@ impl<A: Accounts, H: Session> Session for Gate<A, H> {
         ensures counted { OnErr result (self.new.inner.refused + H.failures self.new.inner.handler
             ≡ self.old.inner.refused + H.failures self.old.inner.handler + 1) }
         ensures kept { (self.new.accounts ≡ self.old.accounts)
-            × (self.new.stage ≡ self.old.stage) × (self.new.quit ≡ self.old.quit) }
+            × (self.new.limit ≡ self.old.limit) × (self.new.stage ≡ self.old.stage)
+            × (self.new.quit ≡ self.old.quit) }
         ensures calls { (said : List H.Said) → Begins said (H.heard self.new.inner.handler)
             → GateAsked H.failures (H.law said) (gated A.accepts H.state self.old)
             self.old.inner self.new.inner result }
@@ -312,7 +359,7 @@ impl<A: Accounts, H: Session> Session for Gate<A, H> {
     }
 
     fn done(&self) -> bool {
-        self.quit || self.inner.done()
+        self.quit || self.limit.is_used_up() || self.inner.done()
     }
 }
 

@@ -1,14 +1,14 @@
-//! What a login gate and a limit promise of all inputs, each the contract of a function that does
+//! What a login gate promises of all inputs, each the contract of a function that does
 //! nothing.
-ghost use Rattle.std.specs.Prelude.{◌≡◌, ◌<◌, ◌≤◌, ◌⊎◌, ℕ, true, false, List, Option, IsTrue};
+ghost use Rattle.std.specs.Prelude.{◌≡◌, ◌<◌, ◌≤◌, ◌⊎◌, ℕ, true, false, List, Option, Some, IsTrue};
 ghost use Rattle.unftp_control_defs.specs.Bytes.{Bytes};
 ghost use Rattle.unftp_control_defs.specs.Events.{FtpEvent, Command};
 ghost use Rattle.unftp_control_defs.specs.FtpCommand.{Quit};
 ghost use Rattle.unftp_control_defs.specs.Run.{after, replies_to, text_for};
 ghost use Rattle.unftp_control_login.specs.Login.{Accounts, GaveName, IsLoggedIn, is_login, needs_login};
-ghost use Rattle.unftp_control_login.specs.Gate.{Gated, gated_law};
-ghost use Rattle.unftp_control_login.specs.LoginLimit.{EndsWith, Limited, failed_in_run, is_failed_login, limited_law, too_many};
-ghost use Rattle.unftp_control_login.specs.Promises.{AccountsStayHidden, CallsHidePasswords, ErrorsHidePasswords, IsTurnedAway, LearnsName, MembersAlone, PasswordsStayHidden, ReachesHandler, RefusedLoginsLookAlike, RefusedPasswordsLookAlike, SendsPlainExchanges, ServesMembersAlone, guarded, guarded_calls, guarded_law};
+ghost use Rattle.unftp_control_login.specs.Gate.{Gated, gated_law, unlimited};
+ghost use Rattle.unftp_control_login.specs.LoginLimit.{EndsWith, failed_in_run, is_failed_login, too_many};
+ghost use Rattle.unftp_control_login.specs.Promises.{AccountsStayHidden, CallsHidePasswords, ErrorsHidePasswords, IsTurnedAway, LearnsName, MembersAlone, PasswordsStayHidden, ReachesHandler, RefusedLoginsLookAlike, RefusedPasswordsLookAlike, SendsPlainExchanges, ServesMembersAlone, gate_calls, guarded};
 
 use unftp_control_serve::Session;
 
@@ -16,34 +16,34 @@ use unftp_control_serve::Session;
 /// after one, or its only reply is 530 and the handler doesn't receive it (RFC 959, section 5.4).
 pub fn gated_by_login<H: Session>()
     ensures { (said : List H.Said)
-        (accepts : Accounts) (inner : H.State) (before : List FtpEvent) (event : FtpEvent)
-        → IsTrue (needs_login event)
-        → IsLoggedIn accepts before ⊎ IsTurnedAway (H.law said) accepts inner before event }
+        (accepts : Accounts) (failures : Option ℕ) (inner : H.State) (before : List FtpEvent)
+        (event : FtpEvent) → IsTrue (needs_login event) → IsLoggedIn accepts before
+        ⊎ IsTurnedAway (H.law said) (guarded failures accepts inner) before event }
 {}
 
 /// Each event but USER and PASS reaches the handler after a login, and one that needs no login
 /// always does; and where a password is accepted, the handler receives USER with the name.
 pub fn members_reach_the_handler<H: Session>()
     ensures member { (said : List H.Said)
-        (accepts : Accounts) (inner : H.State) (before : List FtpEvent)
+        (accepts : Accounts) (failures : Option ℕ) (inner : H.State) (before : List FtpEvent)
         (event : FtpEvent) → is_login event ≡ false → IsLoggedIn accepts before
-        → ReachesHandler (H.law said) accepts inner before event }
+        → ReachesHandler (H.law said) (guarded failures accepts inner) before event }
     ensures anyone { (said : List H.Said)
-        (accepts : Accounts) (inner : H.State) (before : List FtpEvent)
+        (accepts : Accounts) (failures : Option ℕ) (inner : H.State) (before : List FtpEvent)
         (event : FtpEvent) → is_login event ≡ false → needs_login event ≡ false
-        → ReachesHandler (H.law said) accepts inner before event }
+        → ReachesHandler (H.law said) (guarded failures accepts inner) before event }
     ensures name { (said : List H.Said)
-        (accepts : Accounts) (inner : H.State) (before : List FtpEvent)
+        (accepts : Accounts) (failures : Option ℕ) (inner : H.State) (before : List FtpEvent)
         (name password : Bytes) → GaveName name before → accepts name password ≡ true
-        → LearnsName (H.law said) accepts inner before name password }
+        → LearnsName (H.law said) (guarded failures accepts inner) before name password }
 {}
 
 /// Whatever handler the gate has, and whatever a client sends: to an event that needs a login, a
-/// reply that reports no failure comes only after a login. With a limit before the gate, it stays
+/// reply that reports no failure comes only after a login. With a limit on failed logins, it stays
 /// so.
 pub fn members_alone_are_served<H: Session>()
     ensures { (said : List H.Said) (accepts : Accounts) (failures : Option ℕ) (inner : H.State)
-        → ServesMembersAlone accepts (guarded_law failures (H.law said))
+        → ServesMembersAlone accepts (gated_law (H.law said))
         (guarded failures accepts inner) }
 {}
 
@@ -55,7 +55,7 @@ pub fn members_alone_are_served_in_bytes<H: Session>()
     ensures { (said : List H.Said) (inner : H.State) → SendsPlainExchanges (H.law said) inner
         → (limit : Option ℕ) (accepts : Accounts) (failures : Option ℕ)
         (input : Bytes) → MembersAlone limit accepts input (text_for limit
-        (guarded_law failures (H.law said)) (guarded failures accepts inner) input) }
+        (gated_law (H.law said)) (guarded failures accepts inner) input) }
 {}
 
 /// The output reveals about a password only whether it was accepted: two inputs whose events differ
@@ -63,24 +63,24 @@ pub fn members_alone_are_served_in_bytes<H: Session>()
 pub fn passwords_stay_hidden<H: Session>()
     ensures { (said : List H.Said)
         (limit : Option ℕ) (accepts : Accounts) (failures : Option ℕ) (inner : H.State)
-        → PasswordsStayHidden limit accepts (guarded_law failures (H.law said))
+        → PasswordsStayHidden limit accepts (gated_law (H.law said))
         (guarded failures accepts inner) }
 {}
 
 /// Nor does an error reveal more, where the inputs differ only in lines that give passwords:
 /// however a session over one of them fails, one over the other may fail with the same error, and
-/// with the same bytes written. And at each event the gate and the limit make the same calls: the
-/// handler receives the same, and memory is asked for the same replies. They fail where one of
-/// these calls fails, and only there (`calls` of their `first` and `further`).
+/// with the same bytes written. And at each event the gate makes the same calls: the handler
+/// receives the same, and memory is asked for the same replies. It fails where one of these calls
+/// fails, and only there (`calls` of its `first` and `further`).
 pub fn errors_hide_passwords<H: Session>()
     ensures errors { (said : List H.Said)
         (limit : Option ℕ) (accepts : Accounts) (failures : Option ℕ) (inner : H.State)
-        → ErrorsHidePasswords limit accepts (guarded_law failures (H.law said))
+        → ErrorsHidePasswords limit accepts (gated_law (H.law said))
         (guarded failures accepts inner) }
     ensures calls { (said : List H.Said)
         (limit : Option ℕ) (accepts : Accounts) (failures : Option ℕ) (inner : H.State)
-        → CallsHidePasswords limit accepts (guarded_law failures (H.law said))
-        (guarded failures accepts inner) (guarded_calls failures (H.law said)) }
+        → CallsHidePasswords limit accepts (gated_law (H.law said))
+        (guarded failures accepts inner) (gate_calls (H.law said)) }
 {}
 
 /// What is written and called depends on the accounts only by their answers to what the session may
@@ -90,8 +90,8 @@ pub fn errors_hide_passwords<H: Session>()
 pub fn accounts_stay_hidden<H: Session>()
     ensures { (said : List H.Said)
         (limit : Option ℕ) (accepts other : Accounts) (failures : Option ℕ) (inner : H.State)
-        → AccountsStayHidden limit accepts other (guarded_calls failures (H.law said))
-        (guarded_law failures (H.law said)) (guarded failures accepts inner)
+        → AccountsStayHidden limit accepts other (gate_calls (H.law said))
+        (gated_law (H.law said)) (guarded failures accepts inner)
         (guarded failures other inner) }
 {}
 
@@ -100,7 +100,7 @@ pub fn accounts_stay_hidden<H: Session>()
 pub fn refused_passwords_look_alike<H: Session>()
     ensures { (said : List H.Said)
         (limit : Option ℕ) (accepts : Accounts) (failures : Option ℕ) (inner : H.State)
-        → RefusedPasswordsLookAlike limit accepts (guarded_law failures (H.law said))
+        → RefusedPasswordsLookAlike limit accepts (gated_law (H.law said))
         (guarded failures accepts inner) }
 {}
 
@@ -108,32 +108,33 @@ pub fn refused_passwords_look_alike<H: Session>()
 pub fn refused_logins_look_alike<H: Session>()
     ensures { (said : List H.Said)
         (limit : Option ℕ) (accepts : Accounts) (failures : Option ℕ) (inner : H.State)
-        → RefusedLoginsLookAlike limit accepts (guarded_law failures (H.law said))
+        → RefusedLoginsLookAlike limit accepts (gated_law (H.law said))
         (guarded failures accepts inner) }
 {}
 
 /// In a session no more logins fail than the limit allows, and the last that may fail is answered
 /// 421, which is the last reply of the session.
 pub fn failed_logins_are_limited<H: Session>()
-    ensures count { (said : List H.Said) (s : Limited H.State) (events : List FtpEvent) → 1 ≤ s.left
-        → failed_in_run (limited_law (H.law said)) s events ≤ s.left }
-    ensures last { (said : List H.Said) (s : Limited H.State) (events : List FtpEvent) → 1 ≤ s.left
-        → failed_in_run (limited_law (H.law said)) s events ≡ s.left
-        → EndsWith too_many (limited_law (H.law said)) s events }
+    ensures count { (said : List H.Said) (s : Gated H.State) (left : ℕ) (events : List FtpEvent)
+        → s.left ≡ Some left → 1 ≤ left → failed_in_run (gated_law (H.law said)) s events ≤ left }
+    ensures last { (said : List H.Said) (s : Gated H.State) (left : ℕ) (events : List FtpEvent)
+        → s.left ≡ Some left → 1 ≤ left → failed_in_run (gated_law (H.law said)) s events ≡ left
+        → EndsWith too_many (gated_law (H.law said)) s events }
 {}
 
 /// While more than one login may fail, and at each event that is no failed login, a limit changes
 /// neither the replies nor whether the session ends.
 pub fn few_failures_change_nothing<H: Session>()
-    ensures says { (said : List H.Said) (s : Limited H.State) (event : FtpEvent) → (1 < s.left)
-        ⊎ (is_failed_login event (replies_to (H.law said) s.inner event) ≡ false)
-        → replies_to (limited_law (H.law said)) s event
-        ≡ replies_to (H.law said) s.inner event }
-    ensures done { (said : List H.Said) (s : Limited H.State) (event : FtpEvent) → 1 ≤ s.left
-        → (1 < s.left)
-        ⊎ (is_failed_login event (replies_to (H.law said) s.inner event) ≡ false)
-        → (limited_law (H.law said)).done (after (limited_law (H.law said)) s event)
-        ≡ (H.law said).done (after (H.law said) s.inner event) }
+    ensures says { (said : List H.Said) (s : Gated H.State) (left : ℕ) (event : FtpEvent)
+        → s.left ≡ Some left → (1 < left) ⊎ (is_failed_login event
+        (replies_to (gated_law (H.law said)) (unlimited s) event) ≡ false)
+        → replies_to (gated_law (H.law said)) s event
+        ≡ replies_to (gated_law (H.law said)) (unlimited s) event }
+    ensures done { (said : List H.Said) (s : Gated H.State) (left : ℕ) (event : FtpEvent)
+        → s.left ≡ Some left → 1 ≤ left → (1 < left) ⊎ (is_failed_login event
+        (replies_to (gated_law (H.law said)) (unlimited s) event) ≡ false)
+        → (gated_law (H.law said)).done (after (gated_law (H.law said)) s event)
+        ≡ (gated_law (H.law said)).done (after (gated_law (H.law said)) (unlimited s) event) }
 {}
 
 /// The session ends with the replies to QUIT (RFC 959, section 4.1.1).

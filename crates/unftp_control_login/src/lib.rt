@@ -1,5 +1,5 @@
-//! A login before any handler: a gate that takes names and passwords, and a limit on the logins
-//! that may fail (RFC 959, section 4.1.1). Both are sessions themselves.
+//! A login before any handler: a gate that takes names and passwords, and lets so many logins fail
+//! (RFC 959, section 4.1.1). It is a session itself.
 #![tactic(auto)]
 
 mod accounts;

@@ -1,6 +1,7 @@
 -- To be read in this order.
 pub mod EventMeaning
 pub mod ClientLines
+pub mod Answering
 pub mod Decoder
 pub mod ErrorTexts
 pub mod Writing

@@ -1,9 +1,8 @@
 //! What gives the replies to the events, one after the other, and the law that it keeps.
-ghost use Rattle.std.specs.Prelude.{◌≡◌, ◌+◌, ◌<◌, ℕ, List, [], IfOk, IfErr, IfSome, OnOk, OnErr};
-ghost use Rattle.unftp_control_defs.specs.Run.{SessionLaw, Follows, as_session};
-ghost use Rattle.unftp_control_message.specs.ErrorMeaning.{fault_of};
-ghost use Rattle.unftp_control_message.specs.ReplyMeaning.{reply_of};
-ghost use Rattle.unftp_control_serve.specs.EventMeaning.{event_meant, further_of};
+ghost use Rattle.std.specs.Prelude.{◌≡◌, ℕ, List, []};
+ghost use Rattle.unftp_control_defs.specs.Run.{SessionLaw, as_session};
+ghost use Rattle.unftp_control_serve.specs.Answering.{FirstAnswer, FurtherAnswer};
+ghost use Rattle.unftp_control_serve.specs.EventMeaning.{event_meant};
 ghost use Rattle.unftp_control_serve.specs.Writing.{Begins};
 
 use crate::event::Event;
@@ -39,31 +38,18 @@ pub trait Session {
     /// allows: it ends the connection, and the state is unspecified after it.
     fn first(&mut self, alloc: Global, event: Event) -> Result<Reply, ControlChanError>
         ensures heard { Begins (heard self.new) (heard self.old) }
-        ensures says { IfOk result (λ reply. (said : List Said) → Begins said (heard self.new)
-            → reply_of reply ≡ (law said).says (state self.old) (event_meant event)) }
-        ensures next { OnOk result ((said : List Said) → Begins said (heard self.new)
-            → state self.new ≡ (law said).next (state self.old) (event_meant event)) }
-        ensures quiet { OnOk result (failures self.new ≡ failures self.old) }
-        ensures may_fail { IfErr result (λ error. (said : List Said)
-            → Begins said (heard self.new)
-            → (law said).may_fail (state self.old) (event_meant event) (fault_of error)) }
-        ensures counted { OnErr result (failures self.new ≡ failures self.old + 1) };
+        ensures answers { (said : List Said) → Begins said (heard self.new)
+            → FirstAnswer (law said) (state self.old) (state self.new) (failures self.old)
+            (failures self.new) (event_meant event) result };
 
     /// Returns the next reply to the event, if there is one. It is called after each reply, once
     /// that is written and flushed, until there is none: a transfer happens here. An error has to
     /// be one that the law's `may_break` allows, and ends the connection too.
     fn further(&mut self, alloc: Global) -> Result<Option<Reply>, ControlChanError>
         ensures heard { Begins (heard self.new) (heard self.old) }
-        ensures follows { IfOk result (λ reply. (said : List Said)
-            → Begins said (heard self.new)
-            → Follows (law said) (state self.old) (further_of reply) (state self.new)) }
-        ensures fewer { IfOk result (λ reply. IfSome reply (λ _.
-            left (state self.new) < left (state self.old))) }
-        ensures quiet { OnOk result (failures self.new ≡ failures self.old) }
-        ensures may_break { IfErr result (λ error. (said : List Said)
-            → Begins said (heard self.new)
-            → (law said).may_break (state self.old) (fault_of error)) }
-        ensures counted { OnErr result (failures self.new ≡ failures self.old + 1) };
+        ensures answers { (said : List Said) → Begins said (heard self.new)
+            → FurtherAnswer (law said) (state self.old) (state self.new) (failures self.old)
+            (failures self.new) left result };
 
     /// Whether the session ends here: it is asked after each event, once all its replies are sent,
     /// and never before the first.

@@ -13,16 +13,13 @@ both a b = (a, b)
 pub returns : goal.returns
 returns g c =
     let served = c.serve_with_limit in
-    let limit = c.new-2.ensures in
-    let gate = c.new-gate.ensures in
+    let limit = c.new-limit.ensures in
+    let gate = c.new-2.ensures in
     let files = c.new.ensures in
     -- the session before the first event
     let ends = simp (
-      limit.left,
-      limit.at_pass,
-      limit.ended,
-      limit.inner,
-      limit.failures,
+      c.with_limit.ensures,
+      limit,
       gate.accounts,
       gate.stage,
       gate.quit,

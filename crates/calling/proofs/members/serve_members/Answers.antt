@@ -1,23 +1,19 @@
 use Rattle.std.proofs.Math.Nat.{zero-add}
 use Rattle.std.proofs.lemmas.Result.{IfOk-weaker}
 use Rattle.std.specs.Prelude.{Some}
-use Rattle.unftp_control.proofs.MemberLemmas.{limit-members-alone}
+use Rattle.unftp_control.proofs.MemberLemmas.{guarded-members-alone}
 use Rattle.calling.proofs.CallerLemmas.{both}
 use Rattle.calling.proofs.members.serve_members.Goals as goal
 
 pub returns : goal.returns
 returns g c =
     let served = c.serve_with_limit in
-    let heard = g.H.Session.heard served.new.handler.inner.handler.inner.handler in
-    let limit = c.new.ensures in
-    let gate = c.new-gate.ensures in
+    let heard = g.H.Session.heard served.new.handler.inner.handler in
+    let gate = c.new.ensures in
     let said = simp (
       zero-add,
-      limit.left,
-      limit.at_pass,
-      limit.ended,
-      limit.inner,
-      limit.failures,
+      c.with_limit.ensures,
+      c.new-2.ensures,
       gate.accounts,
       gate.stage,
       gate.quit,
@@ -33,8 +29,8 @@ returns g c =
             _,
             serves.given,
             serves.written,
-            limit-members-alone (g.H.Session.law heard) (g.H.Session.state c.args.handler)
-                (sends heard) (Some 4096) (g.A.Accounts.accepts c.args.accounts) 3 serves.read,
+            guarded-members-alone (g.H.Session.law heard) (g.H.Session.state c.args.handler)
+                (sends heard) (Some 4096) (g.A.Accounts.accepts c.args.accounts) (Some 3) serves.read,
           )) said.0;
       err = (_, _, _, said.1);
     }

@@ -1,10 +1,7 @@
 use Rattle.unftp_control_login.specs.Promises.{guarded}
 use Rattle.unftp_control_login.proofs.AlikeLemmas.{logins-alike}
-use Rattle.unftp_control_login.proofs.StagedLemmas.{guarded-at, staged}
 use Rattle.unftp_control_login.proofs.laws.refused_logins_look_alike.Goals as goal
 
 pub returns : goal.returns
 returns g c = λ said limit accepts failures inner.
-    let law = g.H.Session.law said in
-    rw (guarded-at law failures accepts accepts inner)
-    (logins-alike (staged law failures) limit accepts (guarded failures accepts inner))
+    logins-alike (g.H.Session.law said) limit accepts (guarded failures accepts inner)
