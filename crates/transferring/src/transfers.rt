@@ -1,14 +1,15 @@
 //! A session that transfers a file.
-ghost use Rattle.std.specs.Prelude.{◌≡◌, ◌+◌, ◌<◌, ◌∷◌, [], List, None, Some, IfErr, IfOk, IfSome, OnErr, OnOk};
+ghost use Rattle.std.specs.Prelude.{◌≡◌, ◌∷◌, [], List, None, Some, IfErr, IfOk, IfSome, OnErr, OnOk};
 ghost use Rattle.std.specs.Io.KnownBytes.{Appends};
 ghost use Rattle.unftp_control_defs.specs.Events.{out_of_memory};
-ghost use Rattle.unftp_control_defs.specs.Run.{Follows, last_state, run_for, text_for};
+ghost use Rattle.unftp_control_defs.specs.Run.{last_state, run_for, text_for};
 ghost use Rattle.unftp_control_defs.specs.Input.{input_state_of};
 ghost use Rattle.unftp_control_serve.specs.Endings.{snapshot_of};
 ghost use Rattle.unftp_control_serve.specs.Service.{ServeEnded, Serves};
 ghost use Rattle.unftp_control_message.specs.ErrorMeaning.{fault_of};
 ghost use Rattle.unftp_control_message.specs.ReplyMeaning.{reply_of};
-ghost use Rattle.unftp_control_serve.specs.EventMeaning.{event_meant, further_of};
+ghost use Rattle.unftp_control_serve.specs.Answering.{FirstAnswer, FurtherAnswer};
+ghost use Rattle.unftp_control_serve.specs.EventMeaning.{event_meant};
 ghost use Rattle.unftp_control_serve.specs.Writing.{Begins};
 ghost use Rattle.transferring.specs.Answers.{DataAnswer};
 ghost use Rattle.transferring.specs.CameTo.{RanOut};
@@ -177,17 +178,10 @@ impl<D: DataConnection> Session for Transfers<D> {
     /// The first reply to an event, which leaves the file as it is, and makes no call.
     fn first(&mut self, alloc: Global, event: Event) -> Result<Reply, ControlChanError>
         ensures heard { Begins (D.answers self.new.connection) (D.answers self.old.connection) }
-        ensures says { IfOk result (λ reply. (said : List DataAnswer)
-            → Begins said (D.answers self.new.connection) → reply_of reply
-            ≡ (transfers_law said).says (state_of D.answers self.old) (event_meant event)) }
-        ensures next { OnOk result ((said : List DataAnswer)
-            → Begins said (D.answers self.new.connection) → state_of D.answers self.new
-            ≡ (transfers_law said).next (state_of D.answers self.old) (event_meant event)) }
-        ensures quiet { OnOk result (failures_of self.new ≡ failures_of self.old) }
-        ensures may_fail { IfErr result (λ error. (said : List DataAnswer)
-            → Begins said (D.answers self.new.connection) → (transfers_law said).may_fail
-            (state_of D.answers self.old) (event_meant event) (fault_of error)) }
-        ensures counted { OnErr result (failures_of self.new ≡ failures_of self.old + 1) }
+        ensures answers { (said : List DataAnswer) → Begins said (D.answers self.new.connection)
+            → FirstAnswer (transfers_law said) (state_of D.answers self.old)
+            (state_of D.answers self.new) (failures_of self.old) (failures_of self.new)
+            (event_meant event) result }
         ensures kept { (self.new.file.items ≡ self.old.file.items)
             × (self.new.connection ≡ self.old.connection) }
     {
@@ -207,16 +201,10 @@ impl<D: DataConnection> Session for Transfers<D> {
     /// it was.
     fn further(&mut self, alloc: Global) -> Result<Option<Reply>, ControlChanError>
         ensures heard { Begins (D.answers self.new.connection) (D.answers self.old.connection) }
-        ensures follows { IfOk result (λ reply. (said : List DataAnswer)
-            → Begins said (D.answers self.new.connection) → Follows (transfers_law said)
-            (state_of D.answers self.old) (further_of reply) (state_of D.answers self.new)) }
-        ensures fewer { IfOk result (λ reply. IfSome reply (λ _.
-            left_in (state_of D.answers self.new) < left_in (state_of D.answers self.old))) }
-        ensures quiet { OnOk result (failures_of self.new ≡ failures_of self.old) }
-        ensures may_break { IfErr result (λ error. (said : List DataAnswer)
-            → Begins said (D.answers self.new.connection) → (transfers_law said).may_break
-            (state_of D.answers self.old) (fault_of error)) }
-        ensures counted { OnErr result (failures_of self.new ≡ failures_of self.old + 1) }
+        ensures answers { (said : List DataAnswer) → Begins said (D.answers self.new.connection)
+            → FurtherAnswer (transfers_law said) (state_of D.answers self.old)
+            (state_of D.answers self.new) (failures_of self.old) (failures_of self.new) left_in
+            result }
         ensures kept { OnErr result (self.new.file.items ≡ self.old.file.items) }
         ensures ran_out { OnErr result (IfSome self.old.pending (λ transfer.
             RanOut (D.answers self.old.connection) (D.answers self.new.connection) transfer

@@ -50,6 +50,7 @@ pub use Rattle.unftp_control_commands.specs.Facts
 pub use Rattle.unftp_control_answers.specs.ReplyTexts
 pub use Rattle.unftp_control_serve.specs.EventMeaning
 pub use Rattle.unftp_control_serve.specs.ClientLines
+pub use Rattle.unftp_control_serve.specs.Answering
 pub use Rattle.unftp_control_serve.specs.Decoder
 pub use Rattle.unftp_control_serve.specs.Writing
 pub use Rattle.unftp_control_serve.specs.ErrorTexts

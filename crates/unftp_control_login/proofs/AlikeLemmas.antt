@@ -21,7 +21,7 @@ use Rattle.unftp_control_login.specs.declared.stage.Stage.TheVariants.{NoName, N
 use Rattle.unftp_control_login.specs.Login.{Accounts, GaveName}
 use Rattle.unftp_control_login.specs.Gate.{Answers, Gated, LogsIn, gated_law, not_accepted, stage_after, stage_after_password}
 use Rattle.unftp_control_login.specs.LoginLimit.{is_pass}
-use Rattle.unftp_control_login.specs.Promises.{AccountsStayHidden, AgreeOn, AtEachPlace, CallsHidePasswords, ErrorsHidePasswords, GivesPassword, IsRefusedLogin, LooksAlike, PasswordFits, PasswordsStayHidden, RefusedLoginsLookAlike, RefusedPasswordsLookAlike, gate_calls, login_lines, pass_line}
+use Rattle.unftp_control_login.specs.Promises.{AccountsStayHidden, AgreeOn, AtEachPlace, CallsHidePasswords, ErrorsHidePasswords, GivesPassword, IsRefusedLogin, LooksAlike, PasswordFits, PasswordsStayHidden, RefusedLoginsLookAlike, RefusedPasswordsLookAlike, gate_calls, guarded, login_lines, pass_line}
 use Rattle.unftp_control_login.proofs.StagedLemmas.{AllAlike, Alike, alike-itself, at, called, fails_alike, goes, turns}
 use Rattle.unftp_control_login.proofs.StageLemmas.{Reason, reason, stage_after-reason, stage_after_all}
 use Rattle.unftp_control_login.proofs.StepLemmas.{lifted, said-lifted}
@@ -345,9 +345,11 @@ module _ {S : Type 0} (law : SessionLaw S) where
   ends-alike ReplyMemory t (event ∷ later) (another ∷ others) sent t' same ends =
       subst (λ steps. Unsent steps sent (λ reply. ¬ (reply ≡ Nothing)) t') same.0.turns ends
 
-  pub errors-hidden : (limit : Option ℕ) (accepts : Accounts) (s : Gated S)
-      → ErrorsHidePasswords limit accepts gate (at accepts NoName s)
-  errors-hidden limit accepts s input other same differ before after error done is failed =
+  pub errors-hidden : (limit : Option ℕ) (accepts : Accounts) (failures : Option ℕ) (inner : S)
+      → ErrorsHidePasswords limit accepts gate (guarded failures accepts inner)
+  errors-hidden limit accepts failures inner input other same differ before after error done is
+      failed =
+      let s : Gated S = guarded failures accepts inner in
       let t = before.state in
       let steps =
       same-steps accepts NoName s [] (events limit input) (events limit other) tt same in
@@ -384,18 +386,20 @@ module _ {S : Type 0} (law : SessionLaw S) where
           ap (λ text. text ++ flat_map encoded (said (step ∷ steps))) same
 
   -- over inputs
-  module _ (limit : Option ℕ) (accepts : Accounts) (s : Gated S) where
-    pub passwords-hidden : PasswordsStayHidden limit accepts gate (at accepts NoName s)
+  module _ (limit : Option ℕ) (accepts : Accounts) (failures : Option ℕ) (inner : S) where
+    abbrev s : Gated S
+    s = guarded failures accepts inner
+
+    pub passwords-hidden : PasswordsStayHidden limit accepts gate s
     passwords-hidden input other same = text-same accepts accepts s (events limit input)
         (events limit other) (all-look-alike accepts NoName [] _ _ tt same)
 
-    pub calls-hidden : CallsHidePasswords limit accepts gate (at accepts NoName s) (gate_calls law)
+    pub calls-hidden : CallsHidePasswords limit accepts gate s (gate_calls law)
     calls-hidden input other same = calls-same accepts accepts s (events limit input)
         (events limit other) (all-look-alike accepts NoName [] _ _ tt same)
 
-    pub accounts-hidden : (other : Accounts)
-        → AccountsStayHidden limit accepts other (gate_calls law) gate (at accepts NoName s)
-        (at other NoName s)
+    pub accounts-hidden : (other : Accounts) → AccountsStayHidden limit accepts other
+        (gate_calls law) gate s (guarded failures other inner)
     accounts-hidden other input alike =
         let same = all-answered-alike accepts other NoName [] (events limit input) tt alike in (
           text-same accepts other s (events limit input) (events limit input) same,
@@ -407,13 +411,13 @@ module _ {S : Type 0} (law : SessionLaw S) where
         → events limit input ≡ before ++ more → events limit other ≡ before ++ others
         → AllAlike accepts accepts (stage_after_all accepts NoName before)
         (stage_after_all accepts NoName before) more others
-        → text_for limit gate (at accepts NoName s) input
-        ≡ text_for limit gate (at accepts NoName s) other
+        → text_for limit gate s input
+        ≡ text_for limit gate s other
     text-after before more others input other one two same =
         text-same accepts accepts s (events limit input) (events limit other)
         (rw (one, two) (all-after accepts NoName before more others same))
 
-    pub passwords-alike : RefusedPasswordsLookAlike limit accepts gate (at accepts NoName s)
+    pub passwords-alike : RefusedPasswordsLookAlike limit accepts gate s
     passwords-alike before after password other ended one two same =
         let past : List FtpEvent = events limit before in
         let stage : Stage = stage_after_all accepts NoName past in
@@ -429,7 +433,7 @@ module _ {S : Type 0} (law : SessionLaw S) where
               next (events limit after) (events limit after)) alike.1 (all-themselves accepts _ _),
         )
 
-    pub logins-alike : RefusedLoginsLookAlike limit accepts gate (at accepts NoName s)
+    pub logins-alike : RefusedLoginsLookAlike limit accepts gate s
     logins-alike before after name password other another ended one two =
         text-after (events limit before)
         (Command (User name) ∷ Command (Pass password) ∷ events limit after)

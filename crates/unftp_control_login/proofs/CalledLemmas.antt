@@ -1,11 +1,13 @@
 -- One call after another.
-use Rattle.std.proofs.Common.{◌≡◌, ◌+◌, ◌++◌, [], ◌∷◌, inl, inr, ap, ◌∙◌, subst, arith}
-use Rattle.std.specs.Prelude.{Result, Ok, Err, IfErr, OnOk, OnErr}
-use Rattle.unftp_control_defs.specs.Events.{Fault}
+use Rattle.std.proofs.Common.{◌≡◌, ℕ, ◌+◌, List, ◌++◌, [], ◌∷◌, Option, inl, inr, ap, ◌∙◌, subst, arith}
+use Rattle.std.specs.Prelude.{Result, Ok, Err, IfErr, MatchResult, OnOk, OnErr}
+use Rattle.unftp_control_defs.specs.Events.{Fault, FtpEvent}
 use Rattle.unftp_control_defs.specs.Run.{SessionLaw}
 use Rattle.unftp_control_message.specs.ErrorMeaning.{fault_of}
 use Rattle.unftp_control_message.specs.declared.reply.error.ControlChanError.{ControlChanError}
-use Rattle.unftp_control_login.specs.HandlerCalls.{AllCalled, Call, CallState, CallsMade, FailedCall, FailsIn, Makes, Plan, called, failed_at}
+use Rattle.unftp_control_message.specs.declared.reply.Reply.{Reply}
+use Rattle.unftp_control_serve.specs.Answering.{FirstAnswer, FurtherAnswer}
+use Rattle.unftp_control_login.specs.HandlerCalls.{AllCalled, AsksFurther, Call, CallState, CallsMade, FailedCall, FailsIn, Makes, Passes, Plan, called, failed_at}
 
 counted : (call : Call) (state : CallState)
     → (failed_at call state).refused + (failed_at call state).failed
@@ -13,15 +15,7 @@ counted : (call : Call) (state : CallState)
 counted (Makes reply) state = omega arith
 counted call state = omega arith
 
--- All calls of a plan, and then those of a second one.
 module _ {S : Type 0} (after : CallState) where
-  all-then : (first second : Plan S) (before between : CallState) → AllCalled first before between
-      → AllCalled second between after → AllCalled (first ++ second) before after
-  all-then [] second before between one two =
-      subst (λ state. AllCalled second state after) one two
-  all-then ((call, s) ∷ first) second before between one two =
-      all-then first second (called call before) between one two
-
   all-quiet : (plan : Plan S) (before : CallState) → AllCalled plan before after
       → after.refused + after.failed ≡ before.refused + before.failed
   all-quiet [] before all = ap (λ (state : CallState). state.refused + state.failed) all
@@ -29,14 +23,6 @@ module _ {S : Type 0} (after : CallState) where
 
 -- One of them that failed.
 module _ {S : Type 0} (law : SessionLaw S) (after : CallState) (fault : Fault) where
-  failed-then : (first second : Plan S) (before between : CallState)
-      → AllCalled first before between → FailedCall law second between after fault
-      → FailedCall law (first ++ second) before after fault
-  failed-then [] second before between one two =
-      subst (λ state. FailedCall law second state after fault) one two
-  failed-then ((call, s) ∷ first) second before between one two =
-      inr (failed-then first second (called call before) between one two)
-
   failed-first : (first second : Plan S) (before : CallState)
       → FailedCall law first before after fault
       → FailedCall law (first ++ second) before after fault
@@ -61,16 +47,30 @@ module _ {S : Type 0} (law : SessionLaw S) (after : CallState) (fault : Fault) w
   failed-fails ((call, s) ∷ plan) before (inr later) =
       inr (failed-fails plan (called call before) later)
 
+-- All calls of a plan, and then those of a second one, by the result.
+abbrev Made : {S T : Type 0} → SessionLaw S → Plan S → CallState → CallState
+    → Result T ControlChanError → Type 0
+Made law plan before after result = MatchResult result (λ _. AllCalled plan before after)
+    (λ error. FailedCall law plan before after (fault_of error))
+
+made-then : {S T : Type 0} (law : SessionLaw S) (first second : Plan S)
+    (before between after : CallState) (result : Result T ControlChanError)
+    → AllCalled first before between → Made law second between after result
+    → Made law (first ++ second) before after result
+made-then law [] second before between after result one two =
+    subst (λ state. Made law second state after result) one two
+made-then law ((call, s) ∷ first) second before between after (Ok value) one two =
+    made-then law first second (called call before) between after (Ok value) one two
+made-then law ((call, s) ∷ first) second before between after (Err error) one two =
+    inr (made-then law first second (called call before) between after (Err error) one two)
+
 module _ {S T U : Type 0} {law : SessionLaw S} {first : Plan S} {before : CallState} where
   pub then-made : {second : Plan S} {between after : CallState} {value : T}
       (result : Result U ControlChanError) → CallsMade law first before between (Ok value)
       → CallsMade law second between after result
       → CallsMade law (first ++ second) before after result
-  then-made {second} {between} {after} (Ok value) one two =
-      record { made = all-then after first second before between one.made two.made }
-  then-made {second} {between} {after} (Err error) one two = record {
-    made = failed-then law after (fault_of error) first second before between one.made two.made;
-  }
+  then-made {second} {between} {after} result one two =
+      record { made = made-then law first second before between after result one.made two.made }
 
   pub made-first : (second : Plan S) {after : CallState} {error : ControlChanError}
       → CallsMade {T = T} law first before after (Err error)
@@ -91,11 +91,35 @@ module _ {S T : Type 0} {law : SessionLaw S} {plan : Plan S} {before after : Cal
   made-counted (Err error) calls =
       failed-counted law after (fault_of error) plan before calls.made
 
--- Under each law that may be that of the handler.
-pub made-fails : {S T W : Type 0} {So : W → Type 0} {law : W → SessionLaw S} {plan : W → Plan S}
-    {before after : CallState} (result : Result T ControlChanError)
-    → ((w : W) → So w → CallsMade (law w) (plan w) before after result)
-    → IfErr result (λ error. (w : W) → So w → FailsIn (law w) (plan w) (fault_of error))
-made-fails (Ok value) calls = tt
-made-fails {law = law} {plan} {before} {after} (Err error) calls = λ w so.
-    failed-fails (law w) after (fault_of error) (plan w) before (calls w so).made
+  pub made-fails : (result : Result T ControlChanError) → CallsMade law plan before after result
+      → IfErr result (λ error. FailsIn law plan (fault_of error))
+  made-fails (Ok value) calls = tt
+  made-fails (Err error) calls =
+      failed-fails law after (fault_of error) plan before calls.made
+
+-- One call of the handler, which counts its own failures.
+module _ {S : Type 0} {law : SessionLaw S} {s s' : S} {failures failures' : ℕ} (calls : List Call)
+    (refused : ℕ) where
+  abbrev with_failures : List Call → ℕ → CallState
+  with_failures calls failures =
+      record { calls = calls; refused = refused; failed = failures }
+
+  pub first-made : {event : FtpEvent} (result : Result Reply ControlChanError)
+      → FirstAnswer law s s' failures failures' event result
+      → CallsMade law ((Passes event, s) ∷ []) (with_failures calls failures)
+      (with_failures (calls ++ Passes event ∷ []) failures') result
+  first-made {event} (Ok reply) answer =
+      record { made = ap (with_failures (calls ++ Passes event ∷ [])) answer.quiet }
+  first-made {event} (Err error) answer = record {
+    made = inl (answer.may_fail, ap (with_failures (calls ++ Passes event ∷ [])) answer.counted);
+  }
+
+  pub further-made : {left : S → ℕ} (result : Result (Option Reply) ControlChanError)
+      → FurtherAnswer law s s' failures failures' left result
+      → CallsMade law ((AsksFurther, s) ∷ []) (with_failures calls failures)
+      (with_failures (calls ++ AsksFurther ∷ []) failures') result
+  further-made (Ok reply) answer =
+      record { made = ap (with_failures (calls ++ AsksFurther ∷ [])) answer.quiet }
+  further-made (Err error) answer = record {
+    made = inl (answer.may_break, ap (with_failures (calls ++ AsksFurther ∷ [])) answer.counted);
+  }

@@ -1,46 +1,85 @@
--- What a gate does with an event that is neither USER nor PASS, and after it.
+-- What a gate leaves of an event, by what it decides.
 use Rattle.std.proofs.Common.{◌≡◌, ℕ, Bool, true, false, ◌||◌, List, ◌++◌, Option, Some, None, cond, refl, sym, ap, ◌∙◌}
 use Rattle.std.specs.Prelude.{Result, Ok, Err, IsTrue, OnErr}
 use Rattle.std.proofs.lemmas.Bool.{false≢true}
 use Rattle.std.proofs.lemmas.List.{append-nil}
+use Rattle.std.proofs.lemmas.Result.{on_ok_weaker}
+use Rattle.unftp_control_defs.specs.Bytes.{Bytes}
 use Rattle.unftp_control_defs.specs.Events.{FtpEvent, Command, is_quit}
-use Rattle.unftp_control_defs.specs.FtpCommand.{Pass}
+use Rattle.unftp_control_defs.specs.FtpCommand.{Pass, User}
 use Rattle.unftp_control_defs.specs.FtpReply.{FtpReply}
-use Rattle.unftp_control_defs.specs.Run.{Follows, SessionLaw}
+use Rattle.unftp_control_defs.specs.Run.{Follows, SessionLaw, after as session_after}
+use Rattle.unftp_control_message.specs.declared.reply.Reply.{Reply}
 use Rattle.unftp_control_message.specs.declared.reply.error.ControlChanError.{ControlChanError}
-use Rattle.unftp_control_login.specs.HandlerCalls.{Call}
-use Rattle.unftp_control_login.specs.Login.{flushes_login, is_login}
-use Rattle.unftp_control_login.specs.Gate.{Decision, Gated, decides, gated_law, is_logged_in, is_passed, left_after, questions, state_by}
+use Rattle.unftp_control_serve.specs.Answering.{FirstAnswer}
+use Rattle.unftp_control_login.specs.HandlerCalls.{Call, CallsMade, tells}
+use Rattle.unftp_control_login.specs.CallsOf.{calls_of, failures_of}
+use Rattle.unftp_control_login.specs.Login.{Accounts, flushes_login, is_login}
 use Rattle.unftp_control_login.specs.LoginLimit.{is_pass}
+use Rattle.unftp_control_login.specs.Gate.{Answers, Decision, Gated, LogsIn, decides, gated_law, is_logged_in, is_passed, left_after, logged_in, questions, stage_after, state_by}
+use Rattle.unftp_control_login.specs.GateState.{Decided, GateAnswers, gated}
+use Rattle.unftp_control_login.specs.declared.gate.Gate.{Gate}
+use Rattle.unftp_control_login.specs.declared.inner.Inner.{Inner}
 use Rattle.unftp_control_login.specs.declared.stage.Stage.{Stage}
 use Rattle.unftp_control_login.specs.declared.stage.Stage.TheVariants.{LoggedIn, Named, NoName}
+use Rattle.unftp_control_login.proofs.CalledLemmas.{made-counted, made-fails, made-quiet, then-made}
 use Rattle.unftp_control_login.proofs.StageLemmas.{no-pass, other-event}
 
--- no login fails by it
-left-other : (left : Option ℕ) (event : FtpEvent) → is_login event ≡ false → (decision : Decision)
-    → left_after left (is_pass event) decision ≡ left
-left-other left event other decision =
-    ap (λ at_pass. left_after left at_pass decision) (no-pass event other) ∙ kept decision
-  where
-    kept : (decision : Decision) → left_after left false decision ≡ left
-    kept (Answers reply) = refl
-    kept decision = refl
+-- a gate's answer is that of its law
+pub first-answer : {A H S : Type 0} {accepts : A → Accounts} {state : H → S} {failures : H → ℕ}
+    {law : SessionLaw S} {before after : Gate A H} {event : FtpEvent}
+    (result : Result Reply ControlChanError)
+    → GateAnswers accepts state failures law before after event result
+    → FirstAnswer (gated_law law) (gated accepts state before) (gated accepts state after)
+    (failures_of failures before.inner) (failures_of failures after.inner) event result
+first-answer result answers = record {
+  says = answers.decided.says;
+  next = answers.next;
+  quiet = made-quiet result answers.decided.calls;
+  may_fail = made-fails result answers.decided.calls;
+  counted = made-counted result answers.decided.calls;
+}
 
--- the gate's state after it, whatever is decided
-pub other-next : {S : Type 0} (law : SessionLaw S) (s : Gated S) (event : FtpEvent)
-    → is_login event ≡ false → {decision : Decision} → decides s event ≡ decision
-    → {s' : Gated S} → s'.accepts ≡ s.accepts → s'.left ≡ s.left
-    → s'.stage ≡ cond (flushes_login event) NoName s.stage → s'.quit ≡ (s.quit || is_quit event)
+-- A login: the handler was told the name, and then memory was asked for the reply.
+pub logs-in : {H S T : Type 0} {state : H → S} {failures : H → ℕ} {law : SessionLaw S}
+    {before between after : Inner H} {name : Bytes} {told : T}
+    (result : Result Reply ControlChanError)
+    → state between.handler ≡ session_after law (state before.handler) (Command (User name))
+    → CallsMade law (tells law (state before.handler) (Command (User name)))
+    (calls_of failures before) (calls_of failures between) (Ok told)
+    → Decided state failures law between after (Answers logged_in) result
+    → Decided state failures law before after (LogsIn name) result
+logs-in {law = law} result same told own = record {
+  says = own.says;
+  next = on_ok_weaker result (λ next. next ∙ same) own.next;
+  calls = then-made result told (rw same at own.calls);
+}
+
+-- the gate's next state, whatever is decided
+pub gate-next : {S : Type 0} (law : SessionLaw S) (s : Gated S) (event : FtpEvent)
+    {decision : Decision} → decides s event ≡ decision → {s' : Gated S} → s'.accepts ≡ s.accepts
+    → s'.left ≡ left_after s.left (is_pass event) decision
+    → s'.stage ≡ stage_after s.accepts s.stage event → s'.quit ≡ (s.quit || is_quit event)
     → s'.passed ≡ is_passed decision → s'.inner ≡ state_by law s.inner decision
     → s' ≡ (gated_law law).next s event
-other-next law s event other is accepts left stage quit passed inner = λ i. record {
+gate-next law s event is accepts left stage quit passed inner = λ i. record {
   accepts = accepts i;
-  left = (left ∙ sym (left-other s.left event other (decides s event))) i;
-  stage = (stage ∙ sym (other-event s.accepts s.stage event other).1) i;
+  left = (left ∙ ap (left_after s.left (is_pass event)) (sym is)) i;
+  stage = stage i;
   quit = quit i;
   passed = (passed ∙ ap is_passed (sym is)) i;
   inner = (inner ∙ ap (state_by law s.inner) (sym is)) i;
 }
+
+-- No login fails by an event that is neither USER nor PASS,
+pub left-other : (left : Option ℕ) (event : FtpEvent) → is_login event ≡ false
+    → (decision : Decision) → left ≡ left_after left (is_pass event) decision
+left-other left event other decision =
+    kept decision ∙ ap (λ at_pass. left_after left at_pass decision) (sym (no-pass event other))
+  where
+    kept : (decision : Decision) → left ≡ left_after left false decision
+    kept (Answers reply) = refl
+    kept decision = refl
 
 -- the accounts are asked nothing
 pub asked-nothing : (asked : List Call) (stage : Stage) (event : FtpEvent)
@@ -50,7 +89,7 @@ asked-nothing asked (Named name) event other = sym (append-nil asked)
 asked-nothing asked NoName event other = sym (append-nil asked)
 asked-nothing asked LoggedIn event other = sym (append-nil asked)
 
--- nobody is logged in by such an event
+-- and nobody is logged in by it.
 nobody-by : (stage stage' : Stage) (flushes : Bool) → stage' ≡ cond flushes NoName stage
     → IsTrue (is_logged_in stage') → IsTrue (is_logged_in stage)
 nobody-by stage stage' true is logged = absurd (false≢true (sym (ap is_logged_in is) ∙ logged))

@@ -135,18 +135,20 @@ module _ {S : Type 0} (law : SessionLaw S) (accepts : Accounts) (failures : Opti
 
   -- Who is served.
   pub serves-members : ServesMembersAlone accepts (gated_law law) first
-  serves-members before event needs = by_member (is_logged_in (after_all before).stage) refl where
-    by_member : (member : Bool) → is_logged_in (after_all before).stage ≡ member
-        → AllByRecursion (λ reply. NoFailure reply → IsLoggedIn accepts before)
-        (replies_to (gated_law law) (after_all before) event)
-    by_member true e = all-of (λ reply. NoFailure reply → IsLoggedIn accepts before)
-        (replies_to (gated_law law) (after_all before) event) (λ reply ok.
-        logged_in-stage accepts before (ap is_logged_in (sym (stage-is before)) ∙ e))
-    by_member false e = subst
-        (AllByRecursion (λ reply. NoFailure reply → IsLoggedIn accepts before))
-        (sym (barred-turn law (after_all before) event (needs-other event needs)
-        (λ i. needs i && not (e i))).0)
-        ((λ low. absurd (omega (arith, low))), tt)
+  serves-members before event needs = ⊎_elim
+      (λ member. all-of (λ reply. NoFailure reply → IsLoggedIn accepts before)
+      (replies_to (gated_law law) (after_all before) event) (λ reply ok. member))
+      (λ away. subst (AllByRecursion (λ reply. NoFailure reply → IsLoggedIn accepts before))
+      (sym away.0) ((λ low. absurd (omega (arith, low))), tt))
+      (gated-all before event needs)
+
+-- What is so of a run is so of what is left of it.
+sends-later : {S : Type 0} (law : SessionLaw S) (s t : S) (event : FtpEvent)
+    → SendsPlainExchanges law s → t ≡ after law s event → law.done t ≡ false
+    → SendsPlainExchanges law t
+sends-later law s t event sends same on = subst (SendsPlainExchanges law) (sym same)
+    (λ before later goes_on. sends (event ∷ before) later
+    ((λ i. (sym (ap law.done same) ∙ on) i || ends law (after law s event) before) ∙ goes_on))
 
 -- The gate's own replies are final ones,
 abbrev OwnFinal : Decision → Type 0
@@ -163,62 +165,43 @@ decides-final s event =
     cond_both (is_barred s.stage event) (Answers login_needed) (PassesOn event)
     (λ decision. OwnFinal (limited s.left false decision)) (λ _. final login_needed refl) (λ _. tt)
 
--- and all others those of the handler.
-module _ {S : Type 0} (law : SessionLaw S) (s : Gated S) (event : FtpEvent) where
-  gate-plain-at : ((passed : FtpEvent) → IsPlainExchange (replies_to law s.inner passed))
+-- and all others those of the handler, which stays, or has received an event.
+gate-turn : {S : Type 0} (law : SessionLaw S) (s : Gated S) (event : FtpEvent)
+    → SendsPlainExchanges law s.inner → IsPlainExchange (replies_to (gated_law law) s event)
+    × (law.done (after (gated_law law) s event).inner ≡ false
+    → SendsPlainExchanges law (after (gated_law law) s event).inner)
+gate-turn law s event sends = by_decision (decides s event) refl (decides-final s event) where
+  n : S
+  n = (after (gated_law law) s event).inner
+
+  by_decision : (decision : Decision) → decides s event ≡ decision → OwnFinal decision
       → IsPlainExchange (replies_to (gated_law law) s event)
-  gate-plain-at plain =
-      by_decision (decides s event) refl (decides-final s event)
-    where
-      by_decision : (decision : Decision) → decides s event ≡ decision
-          → OwnFinal decision → IsPlainExchange (replies_to (gated_law law) s event)
-      by_decision (Answers reply) is own = subst IsPlainExchange
-          (sym (turned law s event {sent = reply ∷ []} is (refl, refl)).0) (own.1, (own.0, tt))
-      by_decision (LogsIn name) is own = subst IsPlainExchange
-          (sym (turned law s event {sent = logged_in ∷ []} is (refl, refl)).0)
-          (own.1, (own.0, tt))
-      by_decision (PassesOn passed) is own = subst IsPlainExchange
-          (sym (turned law s event {sent = replies_to law s.inner passed} is (refl, refl)).0)
-          (plain passed)
-
-  -- the handler stays, or has received an event
-  gate-moves : ((after (gated_law law) s event).inner ≡ s.inner)
-      ⊎ ((passed : FtpEvent) × ((after (gated_law law) s event).inner ≡ after law s.inner passed))
-  gate-moves = by_decision (decides s event) refl where
-    by_decision : (decision : Decision) → decides s event ≡ decision
-        → ((after (gated_law law) s event).inner ≡ s.inner) ⊎ ((passed : FtpEvent)
-        × ((after (gated_law law) s event).inner ≡ after law s.inner passed))
-    by_decision (Answers reply) is =
-        inl (turned law s event {sent = reply ∷ []} is (refl, refl)).1
-    by_decision (LogsIn name) is = inr (
-      Command (User name),
-      (turned law s event {sent = logged_in ∷ []} is (refl, refl)).1,
-    )
-    by_decision (PassesOn passed) is = inr (
-      passed,
-      (turned law s event {sent = replies_to law s.inner passed} is (refl, refl)).1,
-    )
-
--- What is so of a run is so of what is left of it.
-sends-later : {S : Type 0} (law : SessionLaw S) (s t : S) (event : FtpEvent)
-    → SendsPlainExchanges law s → t ≡ after law s event → law.done t ≡ false
-    → SendsPlainExchanges law t
-sends-later law s t event sends same on = subst (SendsPlainExchanges law) (sym same)
-    (λ before later goes_on. sends (event ∷ before) later
-    ((λ i. (sym (ap law.done same) ∙ on) i || ends law (after law s event) before) ∙ goes_on))
+      × (law.done n ≡ false → SendsPlainExchanges law n)
+  by_decision (Answers reply) is own =
+      let turn = turned law s event {sent = reply ∷ []} is (refl, refl) in (
+        subst IsPlainExchange (sym turn.0) (own.1, (own.0, tt)),
+        λ on. subst (SendsPlainExchanges law) (sym turn.1) sends,
+      )
+  by_decision (LogsIn name) is own =
+      let turn = turned law s event {sent = logged_in ∷ []} is (refl, refl) in (
+        subst IsPlainExchange (sym turn.0) (own.1, (own.0, tt)),
+        sends-later law s.inner n (Command (User name)) sends turn.1,
+      )
+  by_decision (PassesOn passed) is own =
+      let turn = turned law s event {sent = replies_to law s.inner passed} is (refl, refl) in (
+        subst IsPlainExchange (sym turn.0) (sends [] passed refl),
+        sends-later law s.inner n passed sends turn.1,
+      )
 
 gate-plain : {S : Type 0} (law : SessionLaw S) (s : Gated S) → SendsPlainExchanges law s.inner
     → SendsPlainExchanges (gated_law law) s
-gate-plain law s sends [] event on =
-    gate-plain-at law s event (λ passed. sends [] passed refl)
+gate-plain law s sends [] event on = (gate-turn law s event sends).0
 gate-plain law s sends (past ∷ before) event on =
     let next = after (gated_law law) s past in
     let goes_on = or_parts ((gated_law law).done next) (ends (gated_law law) next before) on in
-    gate-plain law next (⊎_elim
-    (λ stays. subst (SendsPlainExchanges law) (sym stays) sends)
-    (λ moves. sends-later law s.inner next.inner moves.0 sends moves.1
-    (or_parts (next.quit || is_used_up next.left) (law.done next.inner) goes_on.0).1)
-    (gate-moves law s past)) before event goes_on.1
+    gate-plain law next ((gate-turn law s past sends).1
+    (or_parts (next.quit || is_used_up next.left) (law.done next.inner) goes_on.0).1) before event
+    goes_on.1
 
 -- the replies to the events of a run
 run-plain : {S : Type 0} (law : SessionLaw S) (s : S) (events : List FtpEvent)

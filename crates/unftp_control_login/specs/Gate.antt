@@ -96,7 +96,8 @@ module _ {S : Type 0} (law : SessionLaw S) (s : S) where
   abbrev pub calls_by : Decision → Plan S
   calls_by (Answers reply) = makes s (Some reply)
   calls_by (LogsIn name) =
-      tells law s (Command (User name)) ++ makes s (Some logged_in)
+      tells law s (Command (User name))
+      ++ makes (after law s (Command (User name))) (Some logged_in)
   calls_by (PassesOn event) = (Passes event, s) ∷ []
 
   -- and for all of them

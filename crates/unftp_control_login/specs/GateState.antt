@@ -1,12 +1,14 @@
--- What contracts see of a gate, and of its calls.
-use Rattle.std.specs.Prelude.{ℕ, Result}
+-- What contracts see of a gate, and what a call leaves of it.
+use Rattle.std.specs.Prelude.{◌≡◌, ℕ, Result, IfOk, OnOk}
 use Rattle.unftp_control_defs.specs.Events.{FtpEvent}
 use Rattle.unftp_control_defs.specs.Run.{SessionLaw}
+use Rattle.unftp_control_message.specs.ReplyMeaning.{reply_of}
+use Rattle.unftp_control_message.specs.declared.reply.Reply.{Reply}
 use Rattle.unftp_control_message.specs.declared.reply.error.ControlChanError.{ControlChanError}
 use Rattle.unftp_control_login.specs.Login.{Accounts}
 use Rattle.unftp_control_login.specs.HandlerCalls.{CallsMade}
 use Rattle.unftp_control_login.specs.CallsOf.{calls_of}
-use Rattle.unftp_control_login.specs.Gate.{Gated, calls_by, decides, further_calls}
+use Rattle.unftp_control_login.specs.Gate.{Decision, Gated, calls_by, decides, further_calls, gated_law, reply_by, state_by}
 use Rattle.unftp_control_login.specs.declared.inner.Inner.{Inner}
 use Rattle.unftp_control_login.specs.declared.gate.Gate.{Gate}
 
@@ -32,3 +34,21 @@ abbrev pub GateAsked : {H S T : Type 0} → (H → ℕ) → SessionLaw S → Gat
     → Result T ControlChanError → Type 0
 GateAsked failures law s before after =
     CallsMade law (further_calls s) (calls_of failures before) (calls_of failures after)
+
+-- What follows from a decision: a reply, the handler's next state, and calls.
+pub record Decided {H S : Type 0} (state : H → S) (failures : H → ℕ) (law : SessionLaw S)
+    (before after : Inner H) (decision : Decision) (result : Result Reply ControlChanError)
+    : Type 0 where
+  pub says : IfOk result (λ reply. reply_of reply ≡ reply_by law (state before.handler) decision)
+  pub next : OnOk result (state after.handler ≡ state_by law (state before.handler) decision)
+  pub calls : CallsMade law (calls_by law (state before.handler) decision)
+      (calls_of failures before) (calls_of failures after) result
+
+-- What the first reply to an event leaves of a gate.
+pub record GateAnswers {A H S : Type 0} (accepts : A → Accounts) (state : H → S)
+    (failures : H → ℕ) (law : SessionLaw S) (before after : Gate A H) (event : FtpEvent)
+    (result : Result Reply ControlChanError) : Type 0 where
+  pub decided : Decided state failures law before.inner after.inner
+      (decides (gated accepts state before) event) result
+  pub next : OnOk result (gated accepts state after
+      ≡ (gated_law law).next (gated accepts state before) event)

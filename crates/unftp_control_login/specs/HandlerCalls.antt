@@ -1,4 +1,4 @@
--- What a gate and a limit call: the accounts, the handler after them, and memory for replies of
+-- What a gate calls: the accounts, the handler after them, and memory for replies of
 -- their own.
 use Rattle.std.specs.Prelude.{◌≡◌, ℕ, ◌+◌, List, [], ◌∷◌, ◌++◌, map, ◌⊎◌, Option, Some, None, Result, MatchResult}
 use Rattle.unftp_control_defs.specs.Bytes.{Bytes}

@@ -1,20 +1,18 @@
 //! A login gate before a handler.
-ghost use Rattle.std.specs.Prelude.{◌≡◌, ◌+◌, ◌<◌, ◌++◌, ◌∷◌, ◌||◌, if◌then◌else◌, true, false, is_ok, [], List, None, Some, IfOk, IfErr, IfSome, IsTrue, OnOk, OnErr};
+ghost use Rattle.std.specs.Prelude.{◌≡◌, ◌++◌, ◌||◌, if◌then◌else◌, false, is_ok, true, [], List, IsTrue, None, OnErr};
 ghost use Rattle.unftp_control_defs.specs.Events.{is_quit};
 ghost use Rattle.unftp_control_defs.specs.Events as event;
-ghost use Rattle.unftp_control_defs.specs.FtpCommand.{Pass, User};
+ghost use Rattle.unftp_control_defs.specs.FtpCommand.{Pass};
 ghost use Rattle.unftp_control_defs.specs.FtpReply.{CodeAndMsg};
-ghost use Rattle.unftp_control_defs.specs.Run.{Follows, after};
-ghost use Rattle.unftp_control_message.specs.ErrorMeaning.{fault_of};
-ghost use Rattle.unftp_control_serve.specs.EventMeaning.{event_meant, further_of};
+ghost use Rattle.unftp_control_serve.specs.Answering.{FirstAnswer, FurtherAnswer};
+ghost use Rattle.unftp_control_serve.specs.EventMeaning.{event_meant};
 ghost use Rattle.unftp_control_serve.specs.Writing.{Begins};
-ghost use Rattle.unftp_control_message.specs.ReplyMeaning.{number_of, reply_of};
+ghost use Rattle.unftp_control_message.specs.ReplyMeaning.{number_of};
 ghost use Rattle.unftp_control_login.specs.Login.{flushes_login, is_login, needs_login};
-ghost use Rattle.unftp_control_login.specs.HandlerCalls.{CallsMade, Passes};
-ghost use Rattle.unftp_control_login.specs.CallsOf.{calls_of};
-ghost use Rattle.unftp_control_login.specs.Gate.{Answers, Decision, Gated, LogsIn, calls_by, gated_law, is_barred, is_logged_in, limited, logged_in, questions};
-ghost use Rattle.unftp_control_login.specs.GateState.{GateAsked, GateCalled, gated};
-ghost use Rattle.unftp_control_login.specs.LoginLimit.{is_last, one_fewer, too_many};
+ghost use Rattle.unftp_control_login.specs.LoginLimit.{one_fewer};
+ghost use Rattle.unftp_control_login.specs.CallsOf.{failures_of};
+ghost use Rattle.unftp_control_login.specs.Gate.{Answers, Gated, LogsIn, PassesOn, gated_law, is_barred, is_logged_in, limited, questions};
+ghost use Rattle.unftp_control_login.specs.GateState.{Decided, GateAnswers, GateAsked, GateCalled, gated};
 
 use crate::accounts::Accounts;
 use crate::asked::AskedAccounts;
@@ -86,27 +84,6 @@ impl<A: Accounts, H: Session> Gate<A, H> {
         Gate { limit, ..self }
     }
 
-    /// Answers an event itself.
-    fn answer(
-        &mut self,
-        alloc: Global,
-        code: ReplyCode,
-        text: &str,
-    ) -> Result<Reply, ControlChanError>
-        ensures says { IfOk result (λ reply.
-            reply_of reply ≡ CodeAndMsg (number_of code) text.now) }
-        ensures handler { self.new.inner.handler ≡ self.old.inner.handler }
-        ensures calls { (said : List H.Said) (decision : Decision)
-            → decision ≡ Answers (CodeAndMsg (number_of code) text.now) → CallsMade (H.law said)
-            (calls_by (H.law said) (H.state self.old.inner.handler) decision)
-            (calls_of H.failures self.old.inner) (calls_of H.failures self.new.inner) result }
-        ensures kept { (self.new.accounts ≡ self.old.accounts)
-            × (self.new.limit ≡ self.old.limit) × (self.new.stage ≡ self.old.stage)
-            × (self.new.quit ≡ self.old.quit) × (self.new.passed ≡ self.old.passed) }
-    {
-        self.inner.own_reply(alloc, code, text)
-    }
-
     /// Answers a password by which the login fails: the last that may fail by 421.
     fn refuse(
         &mut self,
@@ -114,44 +91,33 @@ impl<A: Accounts, H: Session> Gate<A, H> {
         code: ReplyCode,
         text: &str,
     ) -> Result<Reply, ControlChanError>
-        ensures says { IfOk result (λ reply. reply_of reply ≡ (if is_last self.old.limit.left
-            then too_many else CodeAndMsg (number_of code) text.now)) }
         ensures handler { self.new.inner.handler ≡ self.old.inner.handler }
-        ensures calls { (said : List H.Said) → CallsMade (H.law said)
-            (calls_by (H.law said) (H.state self.old.inner.handler)
-            (limited self.old.limit.left true (Answers (CodeAndMsg (number_of code) text.now))))
-            (calls_of H.failures self.old.inner) (calls_of H.failures self.new.inner) result }
+        ensures decided { (said : List H.Said) → Decided H.state H.failures (H.law said)
+            self.old.inner self.new.inner (limited self.old.limit.left true
+            (Answers (CodeAndMsg (number_of code) text.now))) result }
         ensures left { self.new.limit.left ≡ one_fewer self.old.limit.left }
         ensures kept { (self.new.accounts ≡ self.old.accounts)
             × (self.new.stage ≡ self.old.stage) × (self.new.quit ≡ self.old.quit)
             × (self.new.passed ≡ self.old.passed) }
     {
         if self.limit.count() {
-            return self.answer(
+            return self.inner.own_reply(
                 alloc,
                 ReplyCode::ServiceNotAvailable,
                 "Too many failed logins, closing control connection",
             );
         }
-        self.answer(alloc, code, text)
+        self.inner.own_reply(alloc, code, text)
     }
 
     /// Takes a password for the name that was given.
     fn take_password(&mut self, alloc: Global, password: &[u8]) -> Result<Reply, ControlChanError>
         ensures heard { Begins (H.heard self.new.inner.handler) (H.heard self.old.inner.handler) }
-        ensures says { IfOk result (λ reply. (said : List H.Said)
-            → Begins said (H.heard self.new.inner.handler) → reply_of reply
-            ≡ (gated_law (H.law said)).says (gated A.accepts H.state self.old)
-            (event.Command (Pass password.now))) }
-        ensures next { OnOk result ((said : List H.Said)
-            → Begins said (H.heard self.new.inner.handler) → gated A.accepts H.state self.new
-            ≡ (gated_law (H.law said)).next (gated A.accepts H.state self.old)
-            (event.Command (Pass password.now))) }
+        ensures answers { (said : List H.Said) → Begins said (H.heard self.new.inner.handler)
+            → GateAnswers A.accepts H.state H.failures (H.law said) self.old self.new
+            (event.Command (Pass password.now)) result }
         ensures asked { self.new.accounts.questions ≡ self.old.accounts.questions
             ++ questions self.old.stage (event.Command (Pass password.now)) }
-        ensures calls { (said : List H.Said) → Begins said (H.heard self.new.inner.handler)
-            → GateCalled H.failures (H.law said) (gated A.accepts H.state self.old)
-            self.old.inner (event.Command (Pass password.now)) self.new.inner result }
         ensures nobody { OnErr result (IsTrue (is_logged_in self.new.stage)
             → IsTrue (is_logged_in self.old.stage)) }
     {
@@ -172,15 +138,9 @@ impl<A: Accounts, H: Session> Gate<A, H> {
     /// Lets the handler know who has logged in. Nobody has where it fails.
     fn admit(&mut self, alloc: Global, username: Bytes) -> Result<Reply, ControlChanError>
         ensures heard { Begins (H.heard self.new.inner.handler) (H.heard self.old.inner.handler) }
-        ensures says { IfOk result (λ reply. reply_of reply ≡ logged_in) }
-        ensures next { OnOk result ((said : List H.Said)
-            → Begins said (H.heard self.new.inner.handler) → H.state self.new.inner.handler
-            ≡ after (H.law said) (H.state self.old.inner.handler)
-            (event.Command (User username))) }
-        ensures calls { (said : List H.Said) → Begins said (H.heard self.new.inner.handler)
-            → CallsMade (H.law said)
-            (calls_by (H.law said) (H.state self.old.inner.handler) (LogsIn username))
-            (calls_of H.failures self.old.inner) (calls_of H.failures self.new.inner) result }
+        ensures decided { (said : List H.Said) → Begins said (H.heard self.new.inner.handler)
+            → Decided H.state H.failures (H.law said) self.old.inner self.new.inner
+            (LogsIn username) result }
         ensures stage { self.new.stage
             ≡ (if is_ok result then Stage.LoggedIn else self.old.stage) }
         ensures kept { (self.new.accounts ≡ self.old.accounts)
@@ -209,26 +169,22 @@ impl<A: Accounts, H: Session> Gate<A, H> {
     fn take_other(&mut self, alloc: Global, event: Event) -> Result<Reply, ControlChanError>
         requires { is_login (event_meant event) ≡ false }
         ensures heard { Begins (H.heard self.new.inner.handler) (H.heard self.old.inner.handler) }
-        ensures says { IfOk result (λ reply. (said : List H.Said)
-            → Begins said (H.heard self.new.inner.handler) → reply_of reply
-            ≡ (gated_law (H.law said)).says (gated A.accepts H.state self.old)
-            (event_meant event)) }
-        ensures next { OnOk result ((said : List H.Said)
-            → Begins said (H.heard self.new.inner.handler) → gated A.accepts H.state self.new
-            ≡ (gated_law (H.law said)).next (gated A.accepts H.state self.old)
-            (event_meant event)) }
+        ensures answers { (said : List H.Said) → Begins said (H.heard self.new.inner.handler)
+            → GateAnswers A.accepts H.state H.failures (H.law said) self.old self.new
+            (event_meant event) result }
         ensures asked { self.new.accounts.questions ≡ self.old.accounts.questions
             ++ questions self.old.stage (event_meant event) }
-        ensures calls { (said : List H.Said) → Begins said (H.heard self.new.inner.handler)
-            → GateCalled H.failures (H.law said) (gated A.accepts H.state self.old)
-            self.old.inner (event_meant event) self.new.inner result }
         ensures nobody { OnErr result (IsTrue (is_logged_in self.new.stage)
             → IsTrue (is_logged_in self.old.stage)) }
     {
         if self.bars(&event) {
             drop(event);
             self.passed = false;
-            return self.answer(alloc, ReplyCode::NotLoggedIn, "Log in with USER and PASS");
+            return self.inner.own_reply(
+                alloc,
+                ReplyCode::NotLoggedIn,
+                "Log in with USER and PASS",
+            );
         }
         self.pass_on(alloc, event)
     }
@@ -237,16 +193,9 @@ impl<A: Accounts, H: Session> Gate<A, H> {
     /// handler fails.
     fn pass_on(&mut self, alloc: Global, event: Event) -> Result<Reply, ControlChanError>
         ensures heard { Begins (H.heard self.new.inner.handler) (H.heard self.old.inner.handler) }
-        ensures says { IfOk result (λ reply. (said : List H.Said)
-            → Begins said (H.heard self.new.inner.handler) → reply_of reply
-            ≡ (H.law said).says (H.state self.old.inner.handler) (event_meant event)) }
-        ensures next { OnOk result ((said : List H.Said)
-            → Begins said (H.heard self.new.inner.handler) → H.state self.new.inner.handler
-            ≡ (H.law said).next (H.state self.old.inner.handler) (event_meant event)) }
-        ensures calls { (said : List H.Said) → Begins said (H.heard self.new.inner.handler)
-            → CallsMade (H.law said)
-            ((Passes (event_meant event), H.state self.old.inner.handler) ∷ [])
-            (calls_of H.failures self.old.inner) (calls_of H.failures self.new.inner) result }
+        ensures decided { (said : List H.Said) → Begins said (H.heard self.new.inner.handler)
+            → Decided H.state H.failures (H.law said) self.old.inner self.new.inner
+            (PassesOn (event_meant event)) result }
         ensures stage { self.new.stage
             ≡ (if flushes_login (event_meant event) then Stage.NoName else self.old.stage) }
         ensures quit { self.new.quit ≡ (self.old.quit || is_quit (event_meant event)) }
@@ -277,7 +226,7 @@ impl<A: Accounts, H: Session> Session for Gate<A, H> {
 
     ghost left = { λ state. H.left state.inner };
 
-    ghost failures = { λ gate. gate.inner.refused + H.failures gate.inner.handler };
+    ghost failures = { λ gate. failures_of H.failures gate.inner };
 
     /// The first reply to an event. Out of memory is returned for a reply of its own, and every
     /// other error is that of its handler. Nobody is logged in by an event that fails.
@@ -289,20 +238,10 @@ impl<A: Accounts, H: Session> Session for Gate<A, H> {
     /// own reply, if it has one: an error is returned where one of these failed (`calls`).
     fn first(&mut self, alloc: Global, event: Event) -> Result<Reply, ControlChanError>
         ensures heard { Begins (H.heard self.new.inner.handler) (H.heard self.old.inner.handler) }
-        ensures says { IfOk result (λ reply. (said : List H.Said)
-            → Begins said (H.heard self.new.inner.handler) → reply_of reply ≡ (gated_law
-            (H.law said)).says (gated A.accepts H.state self.old) (event_meant event)) }
-        ensures next { OnOk result ((said : List H.Said)
-            → Begins said (H.heard self.new.inner.handler) → gated A.accepts H.state self.new
-            ≡ (gated_law (H.law said)).next (gated A.accepts H.state self.old)
-            (event_meant event)) }
-        ensures quiet { OnOk result (self.new.inner.refused + H.failures self.new.inner.handler
-            ≡ self.old.inner.refused + H.failures self.old.inner.handler) }
-        ensures may_fail { IfErr result (λ error. (said : List H.Said)
-            → Begins said (H.heard self.new.inner.handler) → (gated_law (H.law said)).may_fail
-            (gated A.accepts H.state self.old) (event_meant event) (fault_of error)) }
-        ensures counted { OnErr result (self.new.inner.refused + H.failures self.new.inner.handler
-            ≡ self.old.inner.refused + H.failures self.old.inner.handler + 1) }
+        ensures answers { (said : List H.Said) → Begins said (H.heard self.new.inner.handler)
+            → FirstAnswer (gated_law (H.law said)) (gated A.accepts H.state self.old)
+            (gated A.accepts H.state self.new) (failures_of H.failures self.old.inner)
+            (failures_of H.failures self.new.inner) (event_meant event) result }
         ensures asked { self.new.accounts.questions ≡ self.old.accounts.questions
             ++ questions self.old.stage (event_meant event) }
         ensures calls { (said : List H.Said) → Begins said (H.heard self.new.inner.handler)
@@ -315,7 +254,7 @@ impl<A: Accounts, H: Session> Session for Gate<A, H> {
             Event::Command(Command::User { username }) => {
                 self.passed = false;
                 self.stage = Stage::Named(username);
-                self.answer(
+                self.inner.own_reply(
                     alloc,
                     ReplyCode::NeedPassword,
                     "User name okay, need password",
@@ -332,19 +271,10 @@ impl<A: Accounts, H: Session> Session for Gate<A, H> {
     /// (`calls`). To any other event no reply follows.
     fn further(&mut self, alloc: Global) -> Result<Option<Reply>, ControlChanError>
         ensures heard { Begins (H.heard self.new.inner.handler) (H.heard self.old.inner.handler) }
-        ensures follows { IfOk result (λ reply. (said : List H.Said)
-            → Begins said (H.heard self.new.inner.handler) → Follows (gated_law (H.law said))
-            (gated A.accepts H.state self.old) (further_of reply)
-            (gated A.accepts H.state self.new)) }
-        ensures fewer { IfOk result (λ reply. IfSome reply (λ _.
-            H.left (H.state self.new.inner.handler) < H.left (H.state self.old.inner.handler))) }
-        ensures quiet { OnOk result (self.new.inner.refused + H.failures self.new.inner.handler
-            ≡ self.old.inner.refused + H.failures self.old.inner.handler) }
-        ensures may_break { IfErr result (λ error. (said : List H.Said)
-            → Begins said (H.heard self.new.inner.handler) → (gated_law (H.law said)).may_break
-            (gated A.accepts H.state self.old) (fault_of error)) }
-        ensures counted { OnErr result (self.new.inner.refused + H.failures self.new.inner.handler
-            ≡ self.old.inner.refused + H.failures self.old.inner.handler + 1) }
+        ensures answers { (said : List H.Said) → Begins said (H.heard self.new.inner.handler)
+            → FurtherAnswer (gated_law (H.law said)) (gated A.accepts H.state self.old)
+            (gated A.accepts H.state self.new) (failures_of H.failures self.old.inner)
+            (failures_of H.failures self.new.inner) (λ state. H.left state.inner) result }
         ensures kept { (self.new.accounts ≡ self.old.accounts)
             × (self.new.limit ≡ self.old.limit) × (self.new.stage ≡ self.old.stage)
             × (self.new.quit ≡ self.old.quit) }

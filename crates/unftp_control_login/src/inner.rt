@@ -1,13 +1,16 @@
 //! The one way by which the handler after another one is called, and by which that other one asks
 //! memory for a reply.
-ghost use Rattle.std.specs.Prelude.{◌≡◌, ◌<◌, ◌∷◌, [], List, None, Some, IfOk, IfSome, OnOk};
+ghost use Rattle.std.specs.Prelude.{◌≡◌, ◌∷◌, [], List, OnOk};
 ghost use Rattle.unftp_control_defs.specs.FtpReply.{CodeAndMsg};
-ghost use Rattle.unftp_control_defs.specs.Run.{Follows, after, state_after};
-ghost use Rattle.unftp_control_message.specs.ReplyMeaning.{number_of, reply_of};
-ghost use Rattle.unftp_control_serve.specs.EventMeaning.{event_meant, further_of};
+ghost use Rattle.unftp_control_defs.specs.Run.{after, state_after};
+ghost use Rattle.unftp_control_message.specs.ReplyMeaning.{number_of};
+ghost use Rattle.unftp_control_serve.specs.Answering.{FurtherAnswer};
+ghost use Rattle.unftp_control_serve.specs.EventMeaning.{event_meant};
 ghost use Rattle.unftp_control_serve.specs.Writing.{Begins};
-ghost use Rattle.unftp_control_login.specs.HandlerCalls.{AsksFurther, CallsMade, Passes, asks_for, makes, tells};
+ghost use Rattle.unftp_control_login.specs.HandlerCalls.{AsksFurther, CallsMade, asks_for, tells};
 ghost use Rattle.unftp_control_login.specs.CallsOf.{calls_of};
+ghost use Rattle.unftp_control_login.specs.Gate.{Answers, PassesOn};
+ghost use Rattle.unftp_control_login.specs.GateState.{Decided};
 
 use crate::calls::{Calls, Note};
 use std::alloc::Global;
@@ -44,15 +47,9 @@ impl<H: Session> Inner<H> {
     /// Has the handler receive an event, and returns its first reply.
     pub(crate) fn pass_on(&mut self, alloc: Global, event: Event) -> Result<Reply, ControlChanError>
         ensures heard { Begins (H.heard self.new.handler) (H.heard self.old.handler) }
-        ensures says { IfOk result (λ reply. (said : List H.Said)
-            → Begins said (H.heard self.new.handler) → reply_of reply
-            ≡ (H.law said).says (H.state self.old.handler) (event_meant event)) }
-        ensures next { OnOk result ((said : List H.Said)
-            → Begins said (H.heard self.new.handler) → H.state self.new.handler
-            ≡ (H.law said).next (H.state self.old.handler) (event_meant event)) }
-        ensures calls { (said : List H.Said) → Begins said (H.heard self.new.handler)
-            → CallsMade (H.law said) ((Passes (event_meant event), H.state self.old.handler) ∷ [])
-            (calls_of H.failures self.old) (calls_of H.failures self.new) result }
+        ensures decided { (said : List H.Said) → Begins said (H.heard self.new.handler)
+            → Decided H.state H.failures (H.law said) self.old self.new
+            (PassesOn (event_meant event)) result }
     {
         self.calls.push(&Note::Passes(&event));
         self.handler.first(alloc, event)
@@ -61,11 +58,9 @@ impl<H: Session> Inner<H> {
     /// Asks the handler for the next of its replies to the event.
     pub(crate) fn further(&mut self, alloc: Global) -> Result<Option<Reply>, ControlChanError>
         ensures heard { Begins (H.heard self.new.handler) (H.heard self.old.handler) }
-        ensures follows { IfOk result (λ reply. (said : List H.Said)
-            → Begins said (H.heard self.new.handler) → Follows (H.law said)
-            (H.state self.old.handler) (further_of reply) (H.state self.new.handler)) }
-        ensures fewer { IfOk result (λ reply. IfSome reply (λ _.
-            H.left (H.state self.new.handler) < H.left (H.state self.old.handler))) }
+        ensures answers { (said : List H.Said) → Begins said (H.heard self.new.handler)
+            → FurtherAnswer (H.law said) (H.state self.old.handler) (H.state self.new.handler)
+            (H.failures self.old.handler) (H.failures self.new.handler) H.left result }
         ensures calls { (said : List H.Said) → Begins said (H.heard self.new.handler)
             → CallsMade (H.law said) ((AsksFurther, H.state self.old.handler) ∷ [])
             (calls_of H.failures self.old) (calls_of H.failures self.new) result }
@@ -114,12 +109,9 @@ impl<H: Session> Inner<H> {
         code: ReplyCode,
         text: &str,
     ) -> Result<Reply, ControlChanError>
-        ensures says { IfOk result (λ reply.
-            reply_of reply ≡ CodeAndMsg (number_of code) text.now) }
         ensures handler { self.new.handler ≡ self.old.handler }
-        ensures calls { (said : List H.Said) (s : H.State) → CallsMade (H.law said)
-            (makes s (Some (CodeAndMsg (number_of code) text.now)))
-            (calls_of H.failures self.old) (calls_of H.failures self.new) result }
+        ensures decided { (said : List H.Said) → Decided H.state H.failures (H.law said) self.old
+            self.new (Answers (CodeAndMsg (number_of code) text.now)) result }
     {
         self.calls.push(&Note::Makes { code, text });
         let reply = Reply::new(alloc, code, text);

@@ -1,7 +1,5 @@
-use Rattle.unftp_control_login.specs.Promises.{guarded}
 use Rattle.unftp_control_login.proofs.AlikeLemmas.{passwords-hidden}
 use Rattle.unftp_control_login.proofs.laws.passwords_stay_hidden.Goals as goal
 
 pub returns : goal.returns
-returns g c = λ said limit accepts failures inner.
-    passwords-hidden (g.H.Session.law said) limit accepts (guarded failures accepts inner)
+returns g c = λ said. passwords-hidden (g.H.Session.law said)

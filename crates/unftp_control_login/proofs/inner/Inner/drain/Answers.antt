@@ -1,6 +1,6 @@
 use Rattle.std.proofs.Common.{◌∙◌}
 use Rattle.std.proofs.lemmas.Result.{err_from_is_err_and}
-use Rattle.unftp_control_serve.proofs.HeardLemmas.{Begins-trans}
+use Rattle.unftp_control_serve.proofs.HeardLemmas.{Begins-refl, Begins-trans}
 use Rattle.unftp_control_login.proofs.DrainLemmas.{Draining-next, Draining-end, Draining-broke}
 use Rattle.unftp_control_login.proofs.inner.Inner.drain.Goals as goal
 
@@ -18,7 +18,7 @@ loop-reply-preserved g c = record {
   draining = λ w so.
       let before = c.loop-reply.invariant.draining w
       (Begins-trans w _ _ so c.in_ok-reply.ensures.heard) in
-      let follows = rw c.in-Some.is at (c.in_ok-reply.ensures.follows w so) in
+      let follows = rw c.in-Some.is at (c.in_ok-reply.ensures.answers w so).follows in
       Draining-next (g.H.Session.law w) before _ _ follows (c.in_ok-reply.ensures.calls w so);
 }
 
@@ -26,7 +26,7 @@ pub returns-clause-next : goal.returns-clause-next
 returns-clause-next g c = λ w so.
     let before = c.loop-reply.invariant.draining w
     (Begins-trans w _ _ so c.in_ok-reply.ensures.heard) in
-    let follows = rw c.in_default.is at (c.in_ok-reply.ensures.follows w so) in
+    let follows = rw c.in_default.is at (c.in_ok-reply.ensures.answers w so).follows in
     follows.1 ∙ (Draining-end (g.H.Session.law w) before follows.0
     (c.in_ok-reply.ensures.calls w so)).0
 
@@ -34,5 +34,9 @@ pub returns-clause-calls : goal.returns-clause-calls
 returns-clause-calls g c = λ w so.
     let before = c.loop-reply.invariant.draining w
     (Begins-trans w _ _ so c.in_ok-reply.ensures.heard) in
-    let follows = rw c.in_default.is at (c.in_ok-reply.ensures.follows w so) in
+    let follows = rw c.in_default.is at (c.in_ok-reply.ensures.answers w so).follows in
     (Draining-end (g.H.Session.law w) before follows.0 (c.in_ok-reply.ensures.calls w so)).1
+
+pub loop-reply-smaller : goal.loop-reply-smaller
+loop-reply-smaller g c =
+    (rw c.in-Some.is at (c.in_ok-reply.ensures.answers _ (Begins-refl _))).fewer
