@@ -259,7 +259,7 @@ module _ {S : Type 0} (law : SessionLaw S) where
           turns = turned event itself
               ∙ ap (λ next. lifted (at accepts next) (turn gate (at accepts stage s) event)) step.1
               ∙ sym (turned another step.0);
-          may_fail = fails_alike law accepts stage s event another step.0;
+          may_fail = fails_alike law accepts accepts stage stage s event another step.0;
         },
         subst (λ t. SameSteps t events others)
             (sym (goes law accepts accepts stage stage s event event itself))

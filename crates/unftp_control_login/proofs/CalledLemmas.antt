@@ -57,12 +57,13 @@ made-then : {S T : Type 0} (law : SessionLaw S) (first second : Plan S)
     (before between after : CallState) (result : Result T ControlChanError)
     → AllCalled first before between → Made law second between after result
     → Made law (first ++ second) before after result
-made-then law [] second before between after result one two =
+made-then {T = T} law [] second before between after result one two =
     subst (λ state. Made law second state after result) one two
-made-then law ((call, s) ∷ first) second before between after (Ok value) one two =
-    made-then law first second (called call before) between after (Ok value) one two
-made-then law ((call, s) ∷ first) second before between after (Err error) one two =
-    inr (made-then law first second (called call before) between after (Err error) one two)
+made-then {T = T} law ((call, s) ∷ first) second before between after (Ok value) one two =
+    made-then {T = T} law first second (called call before) between after (Ok value) one two
+made-then {T = T} law ((call, s) ∷ first) second before between after (Err error) one two =
+    inr (made-then {T = T} law first second (called call before) between after (Err error) one
+    two)
 
 module _ {S T U : Type 0} {law : SessionLaw S} {first : Plan S} {before : CallState} where
   pub then-made : {second : Plan S} {between after : CallState} {value : T}
@@ -98,28 +99,28 @@ module _ {S T : Type 0} {law : SessionLaw S} {plan : Plan S} {before after : Cal
       failed-fails law after (fault_of error) plan before calls.made
 
 -- One call of the handler, which counts its own failures.
+abbrev with_failures : List Call → ℕ → ℕ → CallState
+with_failures calls refused failures =
+    record { calls = calls; refused = refused; failed = failures }
+
 module _ {S : Type 0} {law : SessionLaw S} {s s' : S} {failures failures' : ℕ} (calls : List Call)
     (refused : ℕ) where
-  abbrev with_failures : List Call → ℕ → CallState
-  with_failures calls failures =
-      record { calls = calls; refused = refused; failed = failures }
-
   pub first-made : {event : FtpEvent} (result : Result Reply ControlChanError)
       → FirstAnswer law s s' failures failures' event result
-      → CallsMade law ((Passes event, s) ∷ []) (with_failures calls failures)
-      (with_failures (calls ++ Passes event ∷ []) failures') result
+      → CallsMade law ((Passes event, s) ∷ []) (with_failures calls refused failures)
+      (with_failures (calls ++ Passes event ∷ []) refused failures') result
   first-made {event} (Ok reply) answer =
-      record { made = ap (with_failures (calls ++ Passes event ∷ [])) answer.quiet }
+      record { made = ap (with_failures (calls ++ Passes event ∷ []) refused) answer.quiet }
   first-made {event} (Err error) answer = record {
-    made = inl (answer.may_fail, ap (with_failures (calls ++ Passes event ∷ [])) answer.counted);
+    made = inl (answer.may_fail, ap (with_failures (calls ++ Passes event ∷ []) refused) answer.counted);
   }
 
   pub further-made : {left : S → ℕ} (result : Result (Option Reply) ControlChanError)
       → FurtherAnswer law s s' failures failures' left result
-      → CallsMade law ((AsksFurther, s) ∷ []) (with_failures calls failures)
-      (with_failures (calls ++ AsksFurther ∷ []) failures') result
+      → CallsMade law ((AsksFurther, s) ∷ []) (with_failures calls refused failures)
+      (with_failures (calls ++ AsksFurther ∷ []) refused failures') result
   further-made (Ok reply) answer =
-      record { made = ap (with_failures (calls ++ AsksFurther ∷ [])) answer.quiet }
+      record { made = ap (with_failures (calls ++ AsksFurther ∷ []) refused) answer.quiet }
   further-made (Err error) answer = record {
-    made = inl (answer.may_break, ap (with_failures (calls ++ AsksFurther ∷ [])) answer.counted);
+    made = inl (answer.may_break, ap (with_failures (calls ++ AsksFurther ∷ []) refused) answer.counted);
   }

@@ -1,6 +1,6 @@
 -- What a gate leaves of an event, by what it decides.
-use Rattle.std.proofs.Common.{◌≡◌, ℕ, Bool, true, false, ◌||◌, List, ◌++◌, Option, Some, None, cond, refl, sym, ap, ◌∙◌}
-use Rattle.std.specs.Prelude.{Result, Ok, Err, IsTrue, OnErr}
+use Rattle.std.proofs.Common.{◌≡◌, ℕ, Bool, true, false, ◌||◌, List, [], ◌++◌, Option, Some, None, cond, refl, sym, ap, ◌∙◌}
+use Rattle.std.specs.Prelude.{Result, Ok, Err, IsTrue, OnErr, OnOk}
 use Rattle.std.proofs.lemmas.Bool.{false≢true}
 use Rattle.std.proofs.lemmas.List.{append-nil}
 use Rattle.std.proofs.lemmas.Result.{on_ok_weaker}
@@ -15,8 +15,8 @@ use Rattle.unftp_control_serve.specs.Answering.{FirstAnswer}
 use Rattle.unftp_control_login.specs.HandlerCalls.{Call, CallsMade, tells}
 use Rattle.unftp_control_login.specs.CallsOf.{calls_of, failures_of}
 use Rattle.unftp_control_login.specs.Login.{Accounts, flushes_login, is_login}
-use Rattle.unftp_control_login.specs.LoginLimit.{is_pass}
-use Rattle.unftp_control_login.specs.Gate.{Answers, Decision, Gated, LogsIn, decides, gated_law, is_logged_in, is_passed, left_after, logged_in, questions, stage_after, state_by}
+use Rattle.unftp_control_login.specs.LoginLimit.{is_last, is_pass, one_fewer, too_many}
+use Rattle.unftp_control_login.specs.Gate.{Answers, Decision, Gated, LogsIn, decided_by_password, decides, gated_law, is_logged_in, is_passed, left_after, limited, logged_in, name_needed, not_accepted, questions, stage_after, stage_after_password, state_by}
 use Rattle.unftp_control_login.specs.GateState.{Decided, GateAnswers, gated}
 use Rattle.unftp_control_login.specs.declared.gate.Gate.{Gate}
 use Rattle.unftp_control_login.specs.declared.inner.Inner.{Inner}
@@ -70,6 +70,84 @@ gate-next law s event is accepts left stage quit passed inner = λ i. record {
   passed = (passed ∙ ap is_passed (sym is)) i;
   inner = (inner ∙ ap (state_by law s.inner) (sym is)) i;
 }
+
+-- A password where no name was given,
+pub no-name : (accepts : Accounts) (stage : Stage) (password : Bytes)
+    → ((name : Bytes) → ¬ (stage ≡ Named name))
+    → (decided_by_password accepts stage password ≡ Answers name_needed)
+    × (stage_after_password accepts stage password ≡ stage)
+    × (questions stage (Command (Pass password)) ≡ [])
+no-name accepts (Named name) password none = absurd (none name refl)
+no-name accepts NoName password none = (refl, refl, refl)
+no-name accepts LoggedIn password none = (refl, refl, refl)
+
+-- and after one.
+pub at-name : (accepts : Accounts) {stage : Stage} {name password : Bytes} {accepted : Bool}
+    → stage ≡ Named name → accepts name password ≡ accepted
+    → (decided_by_password accepts stage password
+    ≡ cond accepted (LogsIn name) (Answers not_accepted))
+    × (stage_after_password accepts stage password ≡ cond accepted LoggedIn NoName)
+at-name accepts {stage} {name} {password} {accepted} is says = (
+  ap (λ stage. decided_by_password accepts stage password) is
+      ∙ ap (λ accepted. cond accepted (LogsIn name) (Answers not_accepted)) says,
+  ap (λ stage. stage_after_password accepts stage password) is
+      ∙ ap (λ accepted. cond accepted LoggedIn NoName) says,
+)
+
+no-quit : (quit : Bool) → quit ≡ (quit || false)
+no-quit true = refl
+no-quit false = refl
+
+module _ {A H S : Type 0} (accepts : A → Accounts) (state : H → S) (failures : H → ℕ)
+    (law : SessionLaw S) (before after : Gate A H) (password : Bytes)
+    (result : Result Reply ControlChanError)
+    (accounts : accepts after.accounts.accounts ≡ accepts before.accounts.accounts)
+    (quit : after.quit ≡ before.quit) (passed : after.passed ≡ false) where
+  abbrev s : Gated S
+  s = gated accepts state before
+
+  -- one that is refused, and one that is accepted
+  pub refused : {reply : FtpReply} → decided_by_password s.accepts s.stage password ≡ Answers reply
+      → Decided state failures law before.inner after.inner (limited s.left true (Answers reply))
+      result
+      → after.limit.left ≡ one_fewer s.left
+      → after.stage ≡ stage_after_password s.accepts s.stage password
+      → GateAnswers accepts state failures law before after (Command (Pass password)) result
+  refused {reply} is decided left stage =
+      let so = ap (limited s.left true) is in
+      record {
+        decided = rw so decided;
+        next = on_ok_weaker result (λ next. gate-next law s (Command (Pass password)) so accounts
+            (left ∙ (by_last (is_last s.left)).0) stage (quit ∙ no-quit s.quit)
+            (passed ∙ (by_last (is_last s.left)).1) next) decided.next;
+      }
+    where
+      by_last : (last : Bool) → (one_fewer s.left
+          ≡ left_after s.left true (cond last (Answers too_many) (Answers reply)))
+          × (false ≡ is_passed (cond last (Answers too_many) (Answers reply)))
+      by_last true = (refl, refl)
+      by_last false = (refl, refl)
+
+  pub admitted : {name : Bytes} → decided_by_password s.accepts s.stage password ≡ LogsIn name
+      → Decided state failures law before.inner after.inner (LogsIn name) result
+      → after.limit.left ≡ s.left → OnOk result (after.stage ≡ LoggedIn)
+      → stage_after_password s.accepts s.stage password ≡ LoggedIn
+      → GateAnswers accepts state failures law before after (Command (Pass password)) result
+  admitted {name} is decided left stage logs =
+      let so = ap (limited s.left true) is in
+      record {
+        decided = rw so decided;
+        next = by_result result stage decided.next;
+      }
+    where
+      by_result : (result : Result Reply ControlChanError) → OnOk result (after.stage ≡ LoggedIn)
+          → OnOk result (state after.inner.handler ≡ state_by law s.inner (LogsIn name))
+          → OnOk result (gated accepts state after
+          ≡ (gated_law law).next s (Command (Pass password)))
+      by_result (Ok reply) stage next = gate-next law s (Command (Pass password))
+          (ap (limited s.left true) is) accounts left (stage ∙ sym logs) (quit ∙ no-quit s.quit)
+          passed next
+      by_result (Err error) stage next = tt
 
 -- No login fails by an event that is neither USER nor PASS,
 pub left-other : (left : Option ℕ) (event : FtpEvent) → is_login event ≡ false

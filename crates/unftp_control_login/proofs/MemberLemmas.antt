@@ -170,7 +170,7 @@ gate-turn : {S : Type 0} (law : SessionLaw S) (s : Gated S) (event : FtpEvent)
     → SendsPlainExchanges law s.inner → IsPlainExchange (replies_to (gated_law law) s event)
     × (law.done (after (gated_law law) s event).inner ≡ false
     → SendsPlainExchanges law (after (gated_law law) s event).inner)
-gate-turn law s event sends = by_decision (decides s event) refl (decides-final s event) where
+gate-turn {S = S} law s event sends = by_decision (decides s event) refl (decides-final s event) where
   n : S
   n = (after (gated_law law) s event).inner
 

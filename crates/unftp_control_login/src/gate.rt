@@ -1,5 +1,5 @@
 //! A login gate before a handler.
-ghost use Rattle.std.specs.Prelude.{◌≡◌, ◌++◌, ◌||◌, if◌then◌else◌, false, is_ok, true, [], List, IsTrue, None, OnErr};
+ghost use Rattle.std.specs.Prelude.{◌≡◌, ◌++◌, ◌||◌, if◌then◌else◌, false, true, [], List, IsTrue, None, OnErr, OnOk};
 ghost use Rattle.unftp_control_defs.specs.Events.{is_quit};
 ghost use Rattle.unftp_control_defs.specs.Events as event;
 ghost use Rattle.unftp_control_defs.specs.FtpCommand.{Pass};
@@ -141,8 +141,8 @@ impl<A: Accounts, H: Session> Gate<A, H> {
         ensures decided { (said : List H.Said) → Begins said (H.heard self.new.inner.handler)
             → Decided H.state H.failures (H.law said) self.old.inner self.new.inner
             (LogsIn username) result }
-        ensures stage { self.new.stage
-            ≡ (if is_ok result then Stage.LoggedIn else self.old.stage) }
+        ensures stage { OnOk result (self.new.stage ≡ Stage.LoggedIn) }
+        ensures nobody { OnErr result (self.new.stage ≡ self.old.stage) }
         ensures kept { (self.new.accounts ≡ self.old.accounts)
             × (self.new.limit ≡ self.old.limit) × (self.new.quit ≡ self.old.quit)
             × (self.new.passed ≡ self.old.passed) }

@@ -1,6 +1,4 @@
-use Rattle.std.proofs.Common.{cond, sym, ap, ◌∙◌}
-use Rattle.unftp_control_login.specs.Gate.{Answers}
-use Rattle.unftp_control_login.specs.LoginLimit.{too_many}
+use Rattle.std.proofs.Common.{sym, ◌∙◌}
 use Rattle.unftp_control_login.proofs.gate.Gate.refuse.Goals as goal
 
 pub returns-then-count-clause-decided : goal.returns-then-count-clause-decided
@@ -9,4 +7,4 @@ returns-then-count-clause-decided g c = λ w.
 
 pub returns-clause-decided : goal.returns-clause-decided
 returns-clause-decided g c = λ w.
-    rw (sym c.count.ensures.last ∙ c.if-count.false) (c.own_reply.ensures.decided w)
+    rw (sym c.count.ensures.last ∙ c.if-count.false) (c.own_reply-2.ensures.decided w)

@@ -7,5 +7,6 @@ returns-clause-decided g c = λ w so.
     record {
       says = answer.says;
       next = answer.next;
-      calls = first-made c.args.self.now.calls c.args.self.now.refused c.first.result answer;
+      calls = rw c.push.ensures
+          (first-made c.args.self.now.calls c.args.self.now.refused c.first.result answer);
     }
