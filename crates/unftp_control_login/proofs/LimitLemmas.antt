@@ -103,25 +103,25 @@ module _ {S : Type 0} (law : SessionLaw S) where
   bounded s left (event ∷ events) is some = by_refused (refuses s event) refl
       (λ left same some. bounded (after gate s event) left events same some)
     where
-    n : Gated S
-    n = after gate s event
+      n : Gated S
+      n = after gate s event
 
-    by_refused : (refused : Bool) → refuses s event ≡ refused
-        → ((left : ℕ) → n.left ≡ Some left → 1 ≤ left → IsBounded n left events)
-        → IsBounded s left (event ∷ events)
-    by_refused false e later =
-        let none = ap count (failed-refuses s event ∙ e) in
-        let same = after-left s event false e ∙ is in
-        with_done (gate.done n) refl (omega (arith, none))
-        (λ all. absurd (omega (arith, none, some, all))) (λ on. later left same some)
-    by_refused true e later =
-        let one = ap count (failed-refuses s event ∙ e) in
-        let fewer = after-left s event true e ∙ ap one_fewer is in
-        with_done (gate.done n) refl (omega (arith, one, some))
-        (λ all. ([], last-said s event e (ap is_last (is ∙ ap Some (sym all ∙ one)))))
-        (λ on. later (left - 1) fewer
-        (on-left n.quit (left - 1) (law.done n.inner)
-        (ap (λ left. (n.quit || is_used_up left) || law.done n.inner) (sym fewer) ∙ on)))
+      by_refused : (refused : Bool) → refuses s event ≡ refused
+          → ((left : ℕ) → n.left ≡ Some left → 1 ≤ left → IsBounded n left events)
+          → IsBounded s left (event ∷ events)
+      by_refused false e later =
+          let none = ap count (failed-refuses s event ∙ e) in
+          let same = after-left s event false e ∙ is in
+          with_done (gate.done n) refl (omega (arith, none))
+          (λ all. absurd (omega (arith, none, some, all))) (λ on. later left same some)
+      by_refused true e later =
+          let one = ap count (failed-refuses s event ∙ e) in
+          let fewer = after-left s event true e ∙ ap one_fewer is in
+          with_done (gate.done n) refl (omega (arith, one, some))
+          (λ all. ([], last-said s event e (ap is_last (is ∙ ap Some (sym all ∙ one)))))
+          (λ on. later (left - 1) fewer
+          (on-left n.quit (left - 1) (law.done n.inner)
+          (ap (λ left. (n.quit || is_used_up left) || law.done n.inner) (sym fewer) ∙ on)))
 
   by_quit : (quit used_up done : Bool) → (((quit || true) || used_up) || done) ≡ true
   by_quit true used_up done = refl
@@ -153,7 +153,6 @@ module _ {S : Type 0} (law : SessionLaw S) where
     pub says-unchanged : replies_to gate s event ≡ replies_to gate (unlimited s) event
     says-unchanged = (turned law s event same (refl, refl)).0
         ∙ sym (turned law (unlimited s) event refl (refl, refl)).0
-
 
     some-left : 1 ≤ left → (refused : Bool) → refuses s event ≡ refused
         → is_used_up (cond refused (one_fewer s.left) s.left) ≡ false

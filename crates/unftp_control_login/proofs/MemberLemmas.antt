@@ -70,77 +70,77 @@ module _ {S : Type 0} (law : SessionLaw S) (s : Gated S) (event : FtpEvent) wher
 
 module _ {S : Type 0} (law : SessionLaw S) (accepts : Accounts) (failures : Option ℕ) (inner : S)
   where
-  abbrev first : Gated S
-  first = guarded failures accepts inner
+    abbrev first : Gated S
+    first = guarded failures accepts inner
 
-  abbrev after_all : List FtpEvent → Gated S
-  after_all before = last_state (gated_law law) first before
+    abbrev after_all : List FtpEvent → Gated S
+    after_all before = last_state (gated_law law) first before
 
-  state-is : (before : List FtpEvent) → (base : Gated S)
-      × (after_all before ≡ at accepts (stage_after_all accepts NoName before) base)
-  state-is before = last-at law accepts NoName first before
+    state-is : (before : List FtpEvent) → (base : Gated S)
+        × (after_all before ≡ at accepts (stage_after_all accepts NoName before) base)
+    state-is before = last-at law accepts NoName first before
 
-  stage-is : (before : List FtpEvent)
-      → (after_all before).stage ≡ stage_after_all accepts NoName before
-  stage-is before = ap (λ (s : Gated S). s.stage) (state-is before).1
+    stage-is : (before : List FtpEvent)
+        → (after_all before).stage ≡ stage_after_all accepts NoName before
+    stage-is before = ap (λ (s : Gated S). s.stage) (state-is before).1
 
-  gated_at : (before : List FtpEvent) (event : FtpEvent) → IsTrue (needs_login event)
-      → (member : Bool) → is_logged_in (after_all before).stage ≡ member
-      → IsLoggedIn accepts before ⊎ IsTurnedAway law first before event
-  gated_at before event needs true e =
-      inl (logged_in-stage accepts before (ap is_logged_in (sym (stage-is before)) ∙ e))
-  gated_at before event needs false e =
-      inr (barred-turn law (after_all before) event (needs-other event needs)
-      (λ i. needs i && not (e i)))
+    gated_at : (before : List FtpEvent) (event : FtpEvent) → IsTrue (needs_login event)
+        → (member : Bool) → is_logged_in (after_all before).stage ≡ member
+        → IsLoggedIn accepts before ⊎ IsTurnedAway law first before event
+    gated_at before event needs true e =
+        inl (logged_in-stage accepts before (ap is_logged_in (sym (stage-is before)) ∙ e))
+    gated_at before event needs false e =
+        inr (barred-turn law (after_all before) event (needs-other event needs)
+        (λ i. needs i && not (e i)))
 
-  pub gated-all : (before : List FtpEvent) (event : FtpEvent) → IsTrue (needs_login event)
-      → IsLoggedIn accepts before ⊎ IsTurnedAway law first before event
-  gated-all before event needs =
-      gated_at before event needs (is_logged_in (after_all before).stage) refl
+    pub gated-all : (before : List FtpEvent) (event : FtpEvent) → IsTrue (needs_login event)
+        → IsLoggedIn accepts before ⊎ IsTurnedAway law first before event
+    gated-all before event needs =
+        gated_at before event needs (is_logged_in (after_all before).stage) refl
 
-  needs_none : (needs member : Bool) → needs ≡ false → (needs && not member) ≡ false
-  needs_none needs member e = ap (λ test. test && not member) e
+    needs_none : (needs member : Bool) → needs ≡ false → (needs && not member) ≡ false
+    needs_none needs member e = ap (λ test. test && not member) e
 
-  is_member : (needs : Bool) → (needs && not true) ≡ false
-  is_member true = refl
-  is_member false = refl
+    is_member : (needs : Bool) → (needs && not true) ≡ false
+    is_member true = refl
+    is_member false = refl
 
-  pub member-reaches : (before : List FtpEvent) (event : FtpEvent) → is_login event ≡ false
-      → IsLoggedIn accepts before
-      → ReachesHandler law first before event
-  member-reaches before event other member =
-      open-turn law (after_all before) event other
-      (ap (λ stage. needs_login event && not (is_logged_in stage))
-      (stage-is before ∙ IsLoggedIn-stage accepts before member)
-      ∙ is_member (needs_login event))
+    pub member-reaches : (before : List FtpEvent) (event : FtpEvent) → is_login event ≡ false
+        → IsLoggedIn accepts before
+        → ReachesHandler law first before event
+    member-reaches before event other member =
+        open-turn law (after_all before) event other
+        (ap (λ stage. needs_login event && not (is_logged_in stage))
+        (stage-is before ∙ IsLoggedIn-stage accepts before member)
+        ∙ is_member (needs_login event))
 
-  pub open-reaches : (before : List FtpEvent) (event : FtpEvent) → is_login event ≡ false
-      → needs_login event ≡ false
-      → ReachesHandler law first before event
-  open-reaches before event other free =
-      open-turn law (after_all before) event other
-      (needs_none (needs_login event) (is_logged_in (after_all before).stage) free)
+    pub open-reaches : (before : List FtpEvent) (event : FtpEvent) → is_login event ≡ false
+        → needs_login event ≡ false
+        → ReachesHandler law first before event
+    open-reaches before event other free =
+        open-turn law (after_all before) event other
+        (needs_none (needs_login event) (is_logged_in (after_all before).stage) free)
 
-  -- an accepted password: the handler receives the name
-  pub name-learned : (before : List FtpEvent) (name password : Bytes) → GaveName name before
-      → accepts name password ≡ true → LearnsName law first before name password
-  name-learned before name password named accepted =
-      let s = after_all before in
-      let is = (state-is before).1 in
-      (turned law s (Command (Pass password)) {sent = logged_in ∷ []}
-      (ap (limited s.left true) ((λ i. decided_by_password (is i).accepts (is i).stage password)
-      ∙ ap (λ stage. decided_by_password accepts stage password)
-      (GaveName-stage accepts name before named)
-      ∙ ap (λ test. cond test (LogsIn name) (Answers not_accepted)) accepted)) (refl, refl)).1
+    -- an accepted password: the handler receives the name
+    pub name-learned : (before : List FtpEvent) (name password : Bytes) → GaveName name before
+        → accepts name password ≡ true → LearnsName law first before name password
+    name-learned before name password named accepted =
+        let s = after_all before in
+        let is = (state-is before).1 in
+        (turned law s (Command (Pass password)) {sent = logged_in ∷ []}
+        (ap (limited s.left true) ((λ i. decided_by_password (is i).accepts (is i).stage password)
+        ∙ ap (λ stage. decided_by_password accepts stage password)
+        (GaveName-stage accepts name before named)
+        ∙ ap (λ test. cond test (LogsIn name) (Answers not_accepted)) accepted)) (refl, refl)).1
 
-  -- Who is served.
-  pub serves-members : ServesMembersAlone accepts (gated_law law) first
-  serves-members before event needs = ⊎_elim
-      (λ member. all-of (λ reply. NoFailure reply → IsLoggedIn accepts before)
-      (replies_to (gated_law law) (after_all before) event) (λ reply ok. member))
-      (λ away. subst (AllByRecursion (λ reply. NoFailure reply → IsLoggedIn accepts before))
-      (sym away.0) ((λ low. absurd (omega (arith, low))), tt))
-      (gated-all before event needs)
+    -- Who is served.
+    pub serves-members : ServesMembersAlone accepts (gated_law law) first
+    serves-members before event needs = ⊎_elim
+        (λ member. all-of (λ reply. NoFailure reply → IsLoggedIn accepts before)
+        (replies_to (gated_law law) (after_all before) event) (λ reply ok. member))
+        (λ away. subst (AllByRecursion (λ reply. NoFailure reply → IsLoggedIn accepts before))
+        (sym away.0) ((λ low. absurd (omega (arith, low))), tt))
+        (gated-all before event needs)
 
 -- What is so of a run is so of what is left of it.
 sends-later : {S : Type 0} (law : SessionLaw S) (s t : S) (event : FtpEvent)

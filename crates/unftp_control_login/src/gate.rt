@@ -180,11 +180,9 @@ impl<A: Accounts, H: Session> Gate<A, H> {
         if self.bars(&event) {
             drop(event);
             self.passed = false;
-            return self.inner.own_reply(
-                alloc,
-                ReplyCode::NotLoggedIn,
-                "Log in with USER and PASS",
-            );
+            return self
+                .inner
+                .own_reply(alloc, ReplyCode::NotLoggedIn, "Log in with USER and PASS");
         }
         self.pass_on(alloc, event)
     }
