@@ -21,10 +21,9 @@ use Rattle.unftp_control_login.specs.declared.stage.Stage.TheVariants.{NoName, N
 use Rattle.unftp_control_login.specs.Login.{Accounts, GaveName}
 use Rattle.unftp_control_login.specs.Gate.{Answers, Gated, LogsIn, gated_law, not_accepted, stage_after, stage_after_password}
 use Rattle.unftp_control_login.specs.LoginLimit.{is_pass}
-use Rattle.unftp_control_login.specs.Promises.{AccountsStayHidden, AgreeOn, AtEachPlace, CallsHidePasswords, ErrorsHidePasswords, GivesPassword, IsRefusedLogin, LooksAlike, PasswordFits, PasswordsStayHidden, RefusedLoginsLookAlike, RefusedPasswordsLookAlike, gate_calls, guarded, login_lines, pass_line}
+use Rattle.unftp_control_login.specs.Promises.{AccountsStayHidden, AtEachPlace, CallsHidePasswords, ErrorsHidePasswords, GivesPassword, IsRefusedLogin, LooksAlike, PasswordFits, PasswordsStayHidden, RefusedLoginsLookAlike, RefusedPasswordsLookAlike, gate_calls, guarded, login_lines, pass_line}
 use Rattle.unftp_control_login.proofs.StagedLemmas.{AllAlike, Alike, alike-itself, at, called, fails_alike, goes, turns}
-use Rattle.unftp_control_login.proofs.StageLemmas.{Reason, reason, stage_after-reason, stage_after_all}
-use Rattle.unftp_control_login.proofs.StepLemmas.{lifted, said-lifted}
+use Rattle.unftp_control_login.proofs.StageLemmas.{Reason, reason, stage_after-reason, stage_after_all, lifted, said-lifted}
 
 -- Lines of passwords may take memory.
 pass-answer : (answer : Answer) → IsTrue (is_pass (event_of answer)) → AnswerMayTakeMemory answer
@@ -103,7 +102,7 @@ password-alike accepts other NoName past password another given same =
 password-alike accepts other LoggedIn past password another given same =
     (record { decision = refl; pass = refl; quit = refl }, refl)
 
--- Events that look alike are, and so are the events about which the accounts answer alike.
+-- Events that look alike are.
 all-themselves : (accepts : Accounts) (stage : Stage) (events : List FtpEvent)
     → AllAlike accepts accepts stage stage events events
 all-themselves accepts stage [] = tt
@@ -122,54 +121,36 @@ all-after accepts stage (event ∷ before) events others same = (
   all-after accepts (stage_after accepts stage event) before events others same,
 )
 
-look-alike : (accepts : Accounts) (stage : Stage) (past : List FtpEvent) (event another : FtpEvent)
-    → Reason accepts stage past → LooksAlike accepts past event another
-    → Alike accepts accepts stage stage event another
-    × (stage_after accepts stage event ≡ stage_after accepts stage another)
-look-alike accepts stage past (Command (Pass password)) (Command (Pass another)) given same =
-    password-alike accepts accepts stage past password another given same
-look-alike accepts stage past event another given same = (
-  subst (Alike accepts accepts stage stage event) same (alike-itself accepts stage event),
-  ap (stage_after accepts stage) same,
-)
-
-all-look-alike : (accepts : Accounts) (stage : Stage) (past events others : List FtpEvent)
-    → Reason accepts stage past → AtEachPlace (LooksAlike accepts) past events others
-    → AllAlike accepts accepts stage stage events others
-all-look-alike accepts stage past [] [] given same = tt
-all-look-alike accepts stage past [] (another ∷ others) given same = absurd same
-all-look-alike accepts stage past (event ∷ events) [] given same = absurd same
-all-look-alike accepts stage past (event ∷ events) (another ∷ others) given same =
-    let step = look-alike accepts stage past event another given same.0 in
-    let next = stage_after accepts stage event in (
-      step.0,
-      subst (λ other_next. AllAlike accepts accepts next other_next events others) step.1
-          (all-look-alike accepts next (past ++ event ∷ []) events others
-          (stage_after-reason accepts stage past event given) same.1),
-    )
-
-answered-alike : (accepts other : Accounts) (stage : Stage) (past : List FtpEvent)
-    (event : FtpEvent) → Reason accepts stage past → AgreeOn accepts other past event
-    → Alike accepts other stage stage event event
-    × (stage_after accepts stage event ≡ stage_after other stage event)
-answered-alike accepts other stage past (Command (Pass password)) given same =
-    password-alike accepts other stage past password password given same
-answered-alike accepts other stage past (Command (User name)) given same =
+look-alike : (accepts other : Accounts) (stage : Stage) (past : List FtpEvent)
+    (event another : FtpEvent) → Reason accepts stage past
+    → LooksAlike accepts other past event another
+    → Alike accepts other stage stage event another
+    × (stage_after accepts stage event ≡ stage_after other stage another)
+look-alike accepts other stage past (Command (Pass password)) (Command (Pass another)) given same =
+    password-alike accepts other stage past password another given same
+look-alike accepts other stage past (Command (Pass password)) another given same =
+    absurd (false≢true (sym (ap is_pass same)))
+look-alike accepts other stage past (Command (User name)) another given same = subst
+    (λ another. Alike accepts other stage stage (Command (User name)) another
+    × (Named name ≡ stage_after other stage another)) same
     (record { decision = refl; pass = refl; quit = refl }, refl)
-answered-alike accepts other stage past event given same =
+look-alike accepts other stage past event another given same = subst
+    (λ another. Alike accepts other stage stage event another
+    × (stage_after accepts stage event ≡ stage_after other stage another)) same
     (record { decision = refl; pass = refl; quit = refl }, refl)
 
-all-answered-alike : (accepts other : Accounts) (stage : Stage) (past events : List FtpEvent)
-    → Reason accepts stage past
-    → AtEachPlace (λ before event _. AgreeOn accepts other before event) past events events
-    → AllAlike accepts other stage stage events events
-all-answered-alike accepts other stage past [] given same = tt
-all-answered-alike accepts other stage past (event ∷ events) given same =
-    let step = answered-alike accepts other stage past event given same.0 in
+all-look-alike : (accepts other : Accounts) (stage : Stage) (past events others : List FtpEvent)
+    → Reason accepts stage past → AtEachPlace (LooksAlike accepts other) past events others
+    → AllAlike accepts other stage stage events others
+all-look-alike accepts other stage past [] [] given same = tt
+all-look-alike accepts other stage past [] (another ∷ others) given same = absurd same
+all-look-alike accepts other stage past (event ∷ events) [] given same = absurd same
+all-look-alike accepts other stage past (event ∷ events) (another ∷ others) given same =
+    let step = look-alike accepts other stage past event another given same.0 in
     let next = stage_after accepts stage event in (
       step.0,
-      subst (λ other_next. AllAlike accepts other next other_next events events) step.1
-          (all-answered-alike accepts other next (past ++ event ∷ []) events
+      subst (λ other_next. AllAlike accepts other next other_next events others) step.1
+          (all-look-alike accepts other next (past ++ event ∷ []) events others
           (stage_after-reason accepts stage past event given) same.1),
     )
 
@@ -246,14 +227,14 @@ module _ {S : Type 0} (law : SessionLaw S) where
 
   -- so it is of events that look alike,
   same-steps : (accepts : Accounts) (stage : Stage) (s : Gated S) (past events others : List FtpEvent)
-      → Reason accepts stage past → AtEachPlace (LooksAlike accepts) past events others
+      → Reason accepts stage past → AtEachPlace (LooksAlike accepts accepts) past events others
       → SameSteps (at accepts stage s) events others
   same-steps accepts stage s past [] [] given same = tt
   same-steps accepts stage s past [] (another ∷ others) given same = absurd same
   same-steps accepts stage s past (event ∷ events) [] given same = absurd same
   same-steps accepts stage s past (event ∷ events) (another ∷ others) given same =
       let itself = alike-itself accepts stage event in
-      let step = look-alike accepts stage past event another given same.0 in
+      let step = look-alike accepts accepts stage past event another given same.0 in
       let turned = λ (other : FtpEvent). turns law accepts accepts stage stage s event other in (
         record {
           turns = turned event itself
@@ -392,16 +373,17 @@ module _ {S : Type 0} (law : SessionLaw S) where
 
     pub passwords-hidden : PasswordsStayHidden limit accepts gate s
     passwords-hidden input other same = text-same accepts accepts s (events limit input)
-        (events limit other) (all-look-alike accepts NoName [] _ _ tt same)
+        (events limit other) (all-look-alike accepts accepts NoName [] _ _ tt same)
 
     pub calls-hidden : CallsHidePasswords limit accepts gate s (gate_calls law)
     calls-hidden input other same = calls-same accepts accepts s (events limit input)
-        (events limit other) (all-look-alike accepts NoName [] _ _ tt same)
+        (events limit other) (all-look-alike accepts accepts NoName [] _ _ tt same)
 
     pub accounts-hidden : (other : Accounts) → AccountsStayHidden limit accepts other
         (gate_calls law) gate s (guarded failures other inner)
     accounts-hidden other input alike =
-        let same = all-answered-alike accepts other NoName [] (events limit input) tt alike in (
+        let same = all-look-alike accepts other NoName [] (events limit input)
+        (events limit input) tt alike in (
           text-same accepts other s (events limit input) (events limit input) same,
           calls-same accepts other s (events limit input) (events limit input) same,
         )

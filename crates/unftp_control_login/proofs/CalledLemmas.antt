@@ -1,13 +1,14 @@
 -- One call after another.
-use Rattle.std.proofs.Common.{◌≡◌, ℕ, ◌+◌, List, ◌++◌, [], ◌∷◌, Option, inl, inr, ap, ◌∙◌, subst, arith}
+use Rattle.std.proofs.Common.{◌≡◌, ℕ, ◌+◌, List, ◌++◌, [], ◌∷◌, Option, inl, inr, ap, sym, ◌∙◌, subst, arith}
 use Rattle.std.specs.Prelude.{Result, Ok, Err, IfErr, MatchResult, OnOk, OnErr}
 use Rattle.unftp_control_defs.specs.Events.{Fault, FtpEvent}
-use Rattle.unftp_control_defs.specs.Run.{SessionLaw}
+use Rattle.unftp_control_defs.specs.FtpReply.{FtpReply}
+use Rattle.unftp_control_defs.specs.Run.{SessionLaw, state_after}
 use Rattle.unftp_control_message.specs.ErrorMeaning.{fault_of}
 use Rattle.unftp_control_message.specs.declared.reply.error.ControlChanError.{ControlChanError}
 use Rattle.unftp_control_message.specs.declared.reply.Reply.{Reply}
 use Rattle.unftp_control_serve.specs.Answering.{FirstAnswer, FurtherAnswer}
-use Rattle.unftp_control_login.specs.HandlerCalls.{AllCalled, AsksFurther, Call, CallState, CallsMade, FailedCall, FailsIn, Makes, Passes, Plan, called, failed_at}
+use Rattle.unftp_control_login.specs.HandlerCalls.{AllCalled, AsksFurther, Call, CallState, CallsMade, FailedCall, FailsIn, Makes, Passes, Plan, asks_for, called, failed_at, tells}
 
 counted : (call : Call) (state : CallState)
     → (failed_at call state).refused + (failed_at call state).failed
@@ -124,3 +125,51 @@ module _ {S : Type 0} {law : SessionLaw S} {s s' : S} {failures failures' : ℕ}
   further-made (Err error) answer = record {
     made = inl (answer.may_break, ap (with_failures (calls ++ AsksFurther ∷ []) refused) answer.counted);
   }
+
+-- The event was received, and some of the replies that follow were given: what comes of asking for
+-- the others, in the state that the handler has now, comes of the whole.
+pub record Draining {S : Type 0} (law : SessionLaw S) (s : S) (event : FtpEvent) (now : S)
+    (before between : CallState) : Type 0 where
+  pub state : state_after now (law.more now)
+      ≡ state_after (law.next s event) (law.more (law.next s event))
+  pub calls : (after : CallState) (result : Result (Unit {0}) ControlChanError)
+      → CallsMade law (asks_for now (law.more now)) between after result
+      → CallsMade law (tells law s event) before after result
+
+module _ {S T : Type 0} (law : SessionLaw S) {s now : S} {event : FtpEvent}
+    {before between : CallState} where
+  pub Draining-start : {value : T} → now ≡ law.next s event
+      → CallsMade law ((Passes event, s) ∷ []) before between (Ok value)
+      → Draining law s event now before between
+  Draining-start next made = record {
+    state = ap (λ now. state_after now (law.more now)) next;
+    calls = λ after result later. then-made result made (rw next at later);
+  }
+
+  module _ {after : CallState} (so_far : Draining law s event now before between) where
+    pub Draining-next : {value : T} (reply : FtpReply) (next : S)
+        → law.more now ≡ (reply, next) ∷ law.more next
+        → CallsMade law ((AsksFurther, now) ∷ []) between after (Ok value)
+        → Draining law s event next before after
+    Draining-next reply next follows made = record {
+      state = ap (state_after now) (sym follows) ∙ so_far.state;
+      calls = λ after result later. so_far.calls after result
+          (subst (λ steps. CallsMade law (asks_for now steps) between after result) (sym follows)
+          (then-made result made later));
+    }
+
+    pub Draining-end : {value : T} → law.more now ≡ []
+        → CallsMade law ((AsksFurther, now) ∷ []) between after (Ok value)
+        → (now ≡ state_after (law.next s event) (law.more (law.next s event)))
+        × CallsMade {T = Unit {0}} law (tells law s event) before after (Ok tt)
+    Draining-end none made = (
+      ap (state_after now) (sym none) ∙ so_far.state,
+      so_far.calls after (Ok tt)
+          (subst (λ steps. CallsMade {T = Unit {0}} law (asks_for now steps) between after (Ok tt))
+          (sym none) (record { made = made.made })),
+    )
+
+    pub Draining-broke : {error : ControlChanError}
+        → CallsMade {T = T} law ((AsksFurther, now) ∷ []) between after (Err error)
+        → CallsMade {T = Unit {0}} law (tells law s event) before after (Err error)
+    Draining-broke {error} made = so_far.calls after (Err error) (made-first _ made)

@@ -1,7 +1,7 @@
 -- What a gate leaves of an event, by what it decides.
 use Rattle.std.proofs.Common.{◌≡◌, ℕ, Bool, true, false, ◌||◌, List, [], ◌++◌, Option, Some, None, cond, refl, sym, ap, ◌∙◌}
 use Rattle.std.specs.Prelude.{Result, Ok, Err, IsTrue, OnErr, OnOk}
-use Rattle.std.proofs.lemmas.Bool.{false≢true}
+use Rattle.std.proofs.lemmas.Bool.{cond_both, false≢true}
 use Rattle.std.proofs.lemmas.List.{append-nil}
 use Rattle.std.proofs.lemmas.Result.{on_ok_weaker}
 use Rattle.unftp_control_defs.specs.Bytes.{Bytes}
@@ -14,16 +14,16 @@ use Rattle.unftp_control_message.specs.declared.reply.error.ControlChanError.{Co
 use Rattle.unftp_control_serve.specs.Answering.{FirstAnswer}
 use Rattle.unftp_control_login.specs.HandlerCalls.{Call, CallsMade, tells}
 use Rattle.unftp_control_login.specs.CallsOf.{calls_of, failures_of}
-use Rattle.unftp_control_login.specs.Login.{Accounts, flushes_login, is_login}
-use Rattle.unftp_control_login.specs.LoginLimit.{is_last, is_pass, one_fewer, too_many}
-use Rattle.unftp_control_login.specs.Gate.{Answers, Decision, Gated, LogsIn, decided_by_password, decides, gated_law, is_logged_in, is_passed, left_after, limited, logged_in, name_needed, not_accepted, questions, stage_after, stage_after_password, state_by}
+use Rattle.unftp_control_login.specs.Login.{Accounts, is_login}
+use Rattle.unftp_control_login.specs.LoginLimit.{is_last, is_pass, too_many}
+use Rattle.unftp_control_login.specs.Gate.{Answers, Decision, Gated, LogsIn, decided, decided_by_password, decides, gated_law, is_logged_in, is_passed, left_after, limited, logged_in, name_needed, not_accepted, questions, stage_after, stage_after_password, state_by}
 use Rattle.unftp_control_login.specs.GateState.{Decided, GateAnswers, gated}
 use Rattle.unftp_control_login.specs.declared.gate.Gate.{Gate}
 use Rattle.unftp_control_login.specs.declared.inner.Inner.{Inner}
 use Rattle.unftp_control_login.specs.declared.stage.Stage.{Stage}
 use Rattle.unftp_control_login.specs.declared.stage.Stage.TheVariants.{LoggedIn, Named, NoName}
 use Rattle.unftp_control_login.proofs.CalledLemmas.{made-counted, made-fails, made-quiet, then-made}
-use Rattle.unftp_control_login.proofs.StageLemmas.{no-pass, other-event}
+use Rattle.unftp_control_login.proofs.StageLemmas.{no-pass}
 
 -- a gate's answer is that of its law
 pub first-answer : {A H S : Type 0} {accepts : A → Accounts} {state : H → S} {failures : H → ℕ}
@@ -55,21 +55,39 @@ logs-in {law = law} result same told own = record {
   calls = then-made result told (rw same at own.calls);
 }
 
--- the gate's next state, whatever is decided
-pub gate-next : {S : Type 0} (law : SessionLaw S) (s : Gated S) (event : FtpEvent)
-    {decision : Decision} → decides s event ≡ decision → {s' : Gated S} → s'.accepts ≡ s.accepts
-    → s'.left ≡ left_after s.left (is_pass event) decision
-    → s'.stage ≡ stage_after s.accepts s.stage event → s'.quit ≡ (s.quit || is_quit event)
-    → s'.passed ≡ is_passed decision → s'.inner ≡ state_by law s.inner decision
-    → s' ≡ (gated_law law).next s event
-gate-next law s event is accepts left stage quit passed inner = λ i. record {
-  accepts = accepts i;
-  left = (left ∙ ap (left_after s.left (is_pass event)) (sym is)) i;
-  stage = stage i;
-  quit = quit i;
-  passed = (passed ∙ ap is_passed (sym is)) i;
-  inner = (inner ∙ ap (state_by law s.inner) (sym is)) i;
-}
+-- A gate does what it decides.
+pub gate-answers : {A H S : Type 0} (accepts : A → Accounts) (state : H → S) (failures : H → ℕ)
+    (law : SessionLaw S) (before after : Gate A H) (event : FtpEvent) {decision : Decision}
+    (result : Result Reply ControlChanError)
+    → decides (gated accepts state before) event ≡ decision
+    → Decided state failures law before.inner after.inner decision result
+    → accepts after.accounts.accounts ≡ accepts before.accounts.accounts
+    → after.limit.left ≡ left_after before.limit.left (is_pass event)
+    (decided (accepts before.accounts.accounts) before.stage event)
+    → OnOk result (after.stage
+    ≡ stage_after (accepts before.accounts.accounts) before.stage event)
+    → after.quit ≡ (before.quit || is_quit event) → after.passed ≡ is_passed decision
+    → GateAnswers accepts state failures law before after event result
+gate-answers accepts state failures law before after event {decision = decision} result is does same
+    left stage quit passed = record {
+      decided = rw is does;
+      next = by_result result stage does.next;
+    }
+  where
+    by_result : (result : Result Reply ControlChanError) → OnOk result (after.stage
+        ≡ stage_after (accepts before.accounts.accounts) before.stage event)
+        → OnOk result (state after.inner.handler ≡ state_by law (state before.inner.handler) decision)
+        → OnOk result (gated accepts state after
+        ≡ (gated_law law).next (gated accepts state before) event)
+    by_result (Ok reply) stage next = λ i. record {
+      accepts = same i;
+      left = left i;
+      stage = stage i;
+      quit = quit i;
+      passed = (passed ∙ ap is_passed (sym is)) i;
+      inner = (next ∙ ap (state_by law (state before.inner.handler)) (sym is)) i;
+    }
+    by_result (Err error) stage next = tt
 
 -- A password where no name was given,
 pub no-name : (accepts : Accounts) (stage : Stage) (password : Bytes)
@@ -94,60 +112,18 @@ at-name accepts {stage} {name} {password} {accepted} is says = (
       ∙ ap (λ accepted. cond accepted LoggedIn NoName) says,
 )
 
-no-quit : (quit : Bool) → quit ≡ (quit || false)
+pub no-quit : (quit : Bool) → quit ≡ (quit || false)
 no-quit true = refl
 no-quit false = refl
 
-module _ {A H S : Type 0} (accepts : A → Accounts) (state : H → S) (failures : H → ℕ)
-    (law : SessionLaw S) (before after : Gate A H) (password : Bytes)
-    (result : Result Reply ControlChanError)
-    (accounts : accepts after.accounts.accounts ≡ accepts before.accounts.accounts)
-    (quit : after.quit ≡ before.quit) (passed : after.passed ≡ false) where
-  abbrev s : Gated S
-  s = gated accepts state before
+pub on-ok : {T P : Type 0} (result : Result T ControlChanError) → P → OnOk result P
+on-ok (Ok value) p = p
+on-ok (Err error) p = tt
 
-  -- one that is refused, and one that is accepted
-  pub refused : {reply : FtpReply} → decided_by_password s.accepts s.stage password ≡ Answers reply
-      → Decided state failures law before.inner after.inner (limited s.left true (Answers reply))
-      result
-      → after.limit.left ≡ one_fewer s.left
-      → after.stage ≡ stage_after_password s.accepts s.stage password
-      → GateAnswers accepts state failures law before after (Command (Pass password)) result
-  refused {reply} is decided left stage =
-      let so = ap (limited s.left true) is in
-      record {
-        decided = rw so decided;
-        next = on_ok_weaker result (λ next. gate-next law s (Command (Pass password)) so accounts
-            (left ∙ (by_last (is_last s.left)).0) stage (quit ∙ no-quit s.quit)
-            (passed ∙ (by_last (is_last s.left)).1) next) decided.next;
-      }
-    where
-      by_last : (last : Bool) → (one_fewer s.left
-          ≡ left_after s.left true (cond last (Answers too_many) (Answers reply)))
-          × (false ≡ is_passed (cond last (Answers too_many) (Answers reply)))
-      by_last true = (refl, refl)
-      by_last false = (refl, refl)
-
-  pub admitted : {name : Bytes} → decided_by_password s.accepts s.stage password ≡ LogsIn name
-      → Decided state failures law before.inner after.inner (LogsIn name) result
-      → after.limit.left ≡ s.left → OnOk result (after.stage ≡ LoggedIn)
-      → stage_after_password s.accepts s.stage password ≡ LoggedIn
-      → GateAnswers accepts state failures law before after (Command (Pass password)) result
-  admitted {name} is decided left stage logs =
-      let so = ap (limited s.left true) is in
-      record {
-        decided = rw so decided;
-        next = by_result result stage decided.next;
-      }
-    where
-      by_result : (result : Result Reply ControlChanError) → OnOk result (after.stage ≡ LoggedIn)
-          → OnOk result (state after.inner.handler ≡ state_by law s.inner (LogsIn name))
-          → OnOk result (gated accepts state after
-          ≡ (gated_law law).next s (Command (Pass password)))
-      by_result (Ok reply) stage next = gate-next law s (Command (Pass password))
-          (ap (limited s.left true) is) accounts left (stage ∙ sym logs) (quit ∙ no-quit s.quit)
-          passed next
-      by_result (Err error) stage next = tt
+pub refused-stays : (left : Option ℕ) (reply : FtpReply)
+    → false ≡ is_passed (limited left true (Answers reply))
+refused-stays left reply = cond_both (is_last left) (Answers too_many) (Answers reply)
+    (λ decision. false ≡ is_passed decision) (λ _. refl) (λ _. refl)
 
 -- No login fails by an event that is neither USER nor PASS,
 pub left-other : (left : Option ℕ) (event : FtpEvent) → is_login event ≡ false

@@ -1,9 +1,7 @@
 mod CallLemmas
 mod CalledLemmas
-mod DrainLemmas
 mod GateLemmas
 pub mod FinalLemmas
-mod StepLemmas
 pub mod StageLemmas
 pub mod StagedLemmas
 pub mod MemberLemmas

@@ -1,30 +1,22 @@
 -- How many logins fail in a run that has a limit.
-use Rattle.std.proofs.Common.{◌≡◌, ◌<◌, ◌≤◌, ◌⊎◌, inl, inr, ℕ, zero, suc, ◌+◌, ◌-◌, ◌==◌, Bool, true, false, ◌&&◌, ◌||◌, cond, List, [], ◌∷◌, ◌++◌, Option, Some, None, refl, sym, ap, ◌∙◌, arith, append_assoc}
-use Rattle.std.proofs.lemmas.Bool.{false≢true, lt-leb, ne_eqb}
+use Rattle.std.proofs.Common.{◌≡◌, ◌<◌, ◌≤◌, ◌⊎◌, inl, inr, ℕ, zero, suc, ◌+◌, ◌-◌, ◌==◌, Bool, true, false, ◌&&◌, ◌||◌, cond, List, [], ◌∷◌, ◌++◌, Some, None, refl, sym, ap, ◌∙◌, arith, append_assoc}
+use Rattle.std.proofs.lemmas.Bool.{cond_both, false≢true, lt-leb, ne_eqb}
 use Rattle.std.proofs.lemmas.List.{append-nil}
 use Rattle.unftp_control_defs.specs.Events.{FtpEvent, Command, is_quit}
 use Rattle.unftp_control_defs.specs.FtpCommand.{Pass, Quit}
 use Rattle.unftp_control_defs.specs.FtpReply.{FtpReply}
 use Rattle.unftp_control_defs.specs.Run.{SessionLaw, after, said, state_after, replies_to}
-use Rattle.unftp_control_login.specs.Gate.{Answers, Decision, Gated, LogsIn, PassesOn, decided, decides, gated_law, is_passed, is_refusal, left_after, limited, passed_steps, reply_by, state_by, unlimited}
+use Rattle.unftp_control_login.specs.Gate.{Answers, Decision, Gated, decided, decides, gated_law, is_passed, is_refusal, limited, name_needed, not_accepted, reply_by, state_by, unlimited}
 use Rattle.unftp_control_login.specs.LoginLimit.{EndsWith, failed_in_run, has_failure, is_failed_login, is_last, is_pass, is_used_up, one_fewer, too_many}
 use Rattle.unftp_control_login.proofs.MemberLemmas.{turned}
-use Rattle.unftp_control_login.proofs.StageLemmas.{by-password, gate-after, passed_more}
+use Rattle.unftp_control_login.proofs.StageLemmas.{by-password, gate-after}
 
 on-left : (quit : Bool) (left : ℕ) (done : Bool) → ((quit || (left == 0)) || done) ≡ false → 1 ≤ left
 on-left true left done e = absurd (false≢true (sym e))
 on-left false zero done e = absurd (false≢true (sym e))
 on-left false (suc left) done e = omega arith
 
--- The last login that may fail is answered 421.
-last-decided : (left : Option ℕ) (at_pass : Bool) (decision : Decision)
-    → is_refusal at_pass (limited left at_pass decision) ≡ true → is_last left ≡ true
-    → limited left at_pass decision ≡ Answers too_many
-last-decided left true (Answers reply) refuses last =
-    ap (λ last. cond last (Answers too_many) (Answers reply)) last
-last-decided left false (Answers reply) refuses last = absurd (false≢true refuses)
-last-decided left at_pass decision refuses last = absurd (false≢true refuses)
-
+-- Without a limit a decision stays.
 none-limited : (at_pass : Bool) (decision : Decision) → limited None at_pass decision ≡ decision
 none-limited true (Answers reply) = refl
 none-limited false (Answers reply) = refl
@@ -39,15 +31,23 @@ module _ {S : Type 0} (law : SessionLaw S) where
   failed s event = is_failed_login event (replies_to gate s event)
 
   abbrev refuses : Gated S → FtpEvent → Bool
-  refuses s event = is_refusal (is_pass event) (decides s event)
+  refuses s event = is_refusal (is_pass event) (decided s.accepts s.stage event)
+
+  -- whether a reply reports a failure, where this is decided
+  abbrev fails : Gated S → Decision → Bool
+  fails s decision = has_failure (reply_by law s.inner decision
+      ∷ said (cond (is_passed decision) (law.more (state_by law s.inner decision)) []))
 
   failed-refuses : (s : Gated S) (event : FtpEvent) → failed s event ≡ refuses s event
-  failed-refuses s (Command (Pass password)) = ap has_failure
-      (turned law s (Command (Pass password)) {decision = decides s (Command (Pass password))} refl (refl, refl)).0
-      ∙ by-password (λ decision. has_failure (reply_by law s.inner decision ∷ said
-      (cond (is_passed decision) (law.more (state_by law s.inner decision)) []))
-      ≡ is_refusal true decision) (λ name. refl) refl refl refl s.accepts s.left s.stage password
-  failed-refuses s event = none (decides s event) where
+  failed-refuses s (Command (Pass password)) =
+      ap has_failure (turned law s (Command (Pass password)) refl (refl, refl)).0
+      ∙ by-password (λ own decision. fails s decision ≡ is_refusal true own) (λ name. refl)
+      (λ last. cond_both last (Answers too_many) (Answers not_accepted)
+      (λ decision. fails s decision ≡ true) (λ _. refl) (λ _. refl))
+      (λ last. cond_both last (Answers too_many) (Answers name_needed)
+      (λ decision. fails s decision ≡ true) (λ _. refl) (λ _. refl))
+      s.accepts s.left s.stage password
+  failed-refuses s event = none (decided s.accepts s.stage event) where
     none : (decision : Decision) → false ≡ is_refusal false decision
     none (Answers reply) = refl
     none decision = refl
@@ -59,8 +59,9 @@ module _ {S : Type 0} (law : SessionLaw S) where
 
   last-said : (s : Gated S) (event : FtpEvent) → refuses s event ≡ true → is_last s.left ≡ true
       → replies_to gate s event ≡ too_many ∷ []
-  last-said s event refused last =
-      (turned law s event (last-decided s.left (is_pass event) _ refused last) (refl, refl)).0
+  last-said s event refused last = (turned law s event {decision = Answers too_many}
+      (λ i. cond (refused i && last i) (Answers too_many) (decided s.accepts s.stage event))
+      (refl, refl)).0
 
   pub record IsBounded (s : Gated S) (left : ℕ) (events : List FtpEvent) : Type 0 where
     pub few : failed_in_run gate s events ≤ left
@@ -143,8 +144,8 @@ module _ {S : Type 0} (law : SessionLaw S) where
     not-last true e = by_few few where
       by_few : (1 < left) ⊎ (failed (unlimited s) event ≡ false) → is_last s.left ≡ false
       by_few (inl more) = ap is_last is ∙ lt-leb left 1 more
-      by_few (inr none) = absurd (false≢true (sym none ∙ failed-refuses (unlimited s) event
-          ∙ ap (is_refusal (is_pass event)) (none-limited (is_pass event) own) ∙ e))
+      by_few (inr none) =
+          absurd (false≢true (sym none ∙ failed-refuses (unlimited s) event ∙ e))
 
     same : decides s event ≡ decides (unlimited s) event
     same = ap (λ last. cond last (Answers too_many) own) (not-last _ refl)
@@ -163,8 +164,8 @@ module _ {S : Type 0} (law : SessionLaw S) where
           → is_used_up (one_fewer s.left) ≡ false
       by_few (inl more) = ap (λ left. is_used_up (one_fewer left)) is
           ∙ ne_eqb (left - 1) 0 (λ none. omega (arith, more, none))
-      by_few (inr none) = absurd (false≢true (sym none ∙ failed-refuses (unlimited s) event
-          ∙ ap (is_refusal (is_pass event)) (sym same) ∙ e))
+      by_few (inr none) =
+          absurd (false≢true (sym none ∙ failed-refuses (unlimited s) event ∙ e))
 
     none-used : (refused : Bool) → is_used_up (cond refused (one_fewer None) None) ≡ false
     none-used true = refl

@@ -1,5 +1,5 @@
 -- Who is served: only who has logged in.
-use Rattle.std.proofs.Common.{◌≡◌, ◌<◌, ℕ, ◌==◌, Bool, true, false, not, ◌&&◌, ◌||◌, cond, IsTrue, List, [], ◌∷◌, ◌++◌, length, filter_map, map, take, Option, Some, None, ◌⊎◌, ⊎_elim, inl, inr, refl, sym, ap, ◌∙◌, subst, arith}
+use Rattle.std.proofs.Common.{◌≡◌, ◌<◌, ℕ, Bool, true, false, not, ◌&&◌, ◌||◌, cond, IsTrue, List, [], ◌∷◌, ◌++◌, length, filter_map, map, take, Option, Some, ◌⊎◌, ⊎_elim, inl, inr, refl, sym, ap, ◌∙◌, subst, arith}
 use Rattle.std.specs.List.{AllByRecursion}
 use Rattle.std.specs.Option.{IfSome}
 use Rattle.std.specs.Prelude.{if◌then◌else◌}
@@ -15,15 +15,13 @@ use Rattle.unftp_control_defs.specs.Turns.{cut_after_final, cut_reads, is_prelim
 use Rattle.unftp_control_defs.proofs.EncodingLemmas.{ReadsBack-encoded, are_plain, are_shown}
 use Rattle.unftp_control_defs.proofs.ExchangeLemmas.{all-append, cut-exchange, cut-read, length-replies_by_event}
 use Rattle.unftp_control_defs.proofs.RunLemmas.{last_state-append, run_of-first}
-use Rattle.unftp_control_login.specs.declared.stage.Stage.{Stage}
-use Rattle.unftp_control_login.specs.declared.stage.Stage.TheVariants.{NoName, Named}
+use Rattle.unftp_control_login.specs.declared.stage.Stage.TheVariants.{NoName}
 use Rattle.unftp_control_login.specs.Login.{Accounts, GaveName, IsLoggedIn, is_login, needs_login}
 use Rattle.unftp_control_login.specs.Gate.{Answers, Decision, Gated, LogsIn, PassesOn, decided_by_password, decides, gated_law, is_barred, is_logged_in, is_passed, limited, logged_in, login_needed, name_needed, not_accepted, password_needed, reply_by, state_by}
 use Rattle.unftp_control_login.specs.LoginLimit.{is_used_up, too_many}
 use Rattle.unftp_control_login.specs.Promises.{AfterLogin, AtEachPlace, IsPlainExchange, IsTurnedAway, LearnsName, MembersAlone, NoFailure, ReachesHandler, SendsPlainExchanges, ServesMembersAlone, guarded}
-use Rattle.unftp_control_login.proofs.StageLemmas.{IsLoggedIn-stage, GaveName-stage, gate-after, gate-more, passed_more, logged_in-stage, needs-other, by-password, decided-barred, decided-open, decides-other, stage_after_all}
+use Rattle.unftp_control_login.proofs.StageLemmas.{IsLoggedIn-stage, GaveName-stage, gate-after, gate-more, passed_more, logged_in-stage, needs-other, by-password, decided-barred, decided-open, decides-other, stage_after_all, said-lifted}
 use Rattle.unftp_control_login.proofs.FinalLemmas.{IsFinal, final}
-use Rattle.unftp_control_login.proofs.StepLemmas.{said-lifted}
 use Rattle.unftp_control_login.proofs.StagedLemmas.{at, last-at}
 
 all-of : {X : Type 0} (P : X → Type 0) (xs : List X) → ((x : X) → P x) → AllByRecursion P xs
@@ -158,9 +156,12 @@ OwnFinal (PassesOn event) = Unit {0}
 
 decides-final : {S : Type 0} (s : Gated S) (event : FtpEvent) → OwnFinal (decides s event)
 decides-final s (Command (User name)) = final password_needed refl
-decides-final s (Command (Pass password)) = by-password OwnFinal (λ name. final logged_in refl)
-    (final not_accepted refl) (final name_needed refl) (final too_many refl) s.accepts s.left s.stage
-    password
+decides-final s (Command (Pass password)) =
+    by-password (λ own decision. OwnFinal decision) (λ name. final logged_in refl)
+    (λ last. cond_both last (Answers too_many) (Answers not_accepted) OwnFinal
+    (λ _. final too_many refl) (λ _. final not_accepted refl))
+    (λ last. cond_both last (Answers too_many) (Answers name_needed) OwnFinal
+    (λ _. final too_many refl) (λ _. final name_needed refl)) s.accepts s.left s.stage password
 decides-final s event =
     cond_both (is_barred s.stage event) (Answers login_needed) (PassesOn event)
     (λ decision. OwnFinal (limited s.left false decision)) (λ _. final login_needed refl) (λ _. tt)

@@ -1,5 +1,5 @@
 -- How far a login has come, and the events that it comes from.
-use Rattle.std.proofs.Common.{◌≡◌, ℕ, Bool, true, false, ◌&&◌, cond, Option, IsTrue, List, [], ◌∷◌, ◌++◌, refl, sym, ap, ◌∙◌, subst, append_assoc}
+use Rattle.std.proofs.Common.{◌≡◌, ℕ, Bool, true, false, cond, Option, IsTrue, List, [], ◌∷◌, ◌++◌, map, refl, sym, ap, ◌∙◌, subst, append_assoc}
 use Rattle.std.specs.Prelude.{if◌then◌else◌}
 use Rattle.std.specs.List.{AllByRecursion}
 use Rattle.std.proofs.lemmas.List.{append-nil}
@@ -7,14 +7,38 @@ use Rattle.std.proofs.lemmas.Bool.{cond_both, false≢true}
 use Rattle.unftp_control_defs.specs.Bytes.{Bytes}
 use Rattle.unftp_control_defs.specs.FtpCommand.{User, Pass, Auth}
 use Rattle.unftp_control_defs.specs.Events.{FtpEvent, Command, Refused}
-use Rattle.unftp_control_defs.specs.Run.{SessionLaw, state_after}
+use Rattle.unftp_control_defs.specs.FtpReply.{FtpReply}
+use Rattle.unftp_control_defs.specs.Run.{SessionLaw, said, state_after}
 use Rattle.unftp_control_defs.proofs.ExchangeLemmas.{all-append}
 use Rattle.unftp_control_login.specs.declared.stage.Stage.{Stage}
 use Rattle.unftp_control_login.specs.declared.stage.Stage.TheVariants.{NoName, Named, LoggedIn}
 use Rattle.unftp_control_login.specs.Login.{Accounts, GaveName, IsLoggedIn, KeepsLogin, KeepsName, flushes_login, is_login, needs_login}
 use Rattle.unftp_control_login.specs.Gate.{Answers, Decision, Gated, LogsIn, PassesOn, decided, decided_by_password, decides, gated_law, is_barred, is_logged_in, limited, login_needed, name_needed, not_accepted, passed_steps, stage_after}
 use Rattle.unftp_control_login.specs.LoginLimit.{is_last, is_pass, too_many}
-use Rattle.unftp_control_login.proofs.StepLemmas.{Steps, after-lifted, lifted}
+
+-- Replies with the states after them, of which the states are changed.
+abbrev pub Steps : Type 0 → Type 0
+Steps S = List (FtpReply × S)
+
+module _ {S T : Type 0} (other_of : S → T) where
+  abbrev pub lifted : Steps S → Steps T
+  lifted steps = map (λ step. (step.0, other_of step.1)) steps
+
+  pub said-lifted : (steps : Steps S) → said (lifted steps) ≡ said steps
+  said-lifted [] = refl
+  said-lifted (step ∷ steps) = ap (λ replies. step.0 ∷ replies) (said-lifted steps)
+
+  pub after-lifted : (s : S) (steps : Steps S)
+      → state_after (other_of s) (lifted steps) ≡ other_of (state_after s steps)
+  after-lifted s [] = refl
+  after-lifted s (step ∷ steps) = after-lifted step.1 steps
+
+  pub lifted-lifted : {U : Type 0} (more_of : T → U) (steps : Steps S)
+      → map {B = FtpReply × U} (λ step. (step.0, more_of step.1)) (lifted steps)
+      ≡ map (λ step. (step.0, more_of (other_of step.1))) steps
+  lifted-lifted more_of [] = refl
+  lifted-lifted more_of (step ∷ steps) =
+      ap (λ later. (step.0, more_of (other_of step.1)) ∷ later) (lifted-lifted more_of steps)
 
 abbrev pub stage_after_all : Accounts → Stage → List FtpEvent → Stage
 stage_after_all accepts stage [] = stage
@@ -222,18 +246,16 @@ pub decides-other : {S : Type 0} (s : Gated S) (event : FtpEvent) → is_login e
 decides-other s event other {decision} is =
     (λ i. limited s.left (no-pass event other i) (is i)) ∙ limited-no-pass s.left decision
 
--- What a gate decides at a PASS.
-pub by-password : (P : Decision → Type 0) → ((name : Bytes) → P (LogsIn name))
-    → P (Answers not_accepted) → P (Answers name_needed) → P (Answers too_many)
+-- What a gate decides at a PASS, before the limit and after it.
+pub by-password : (P : Decision → Decision → Type 0)
+    → ((name : Bytes) → P (LogsIn name) (LogsIn name))
+    → ((last : Bool) → P (Answers not_accepted) (cond last (Answers too_many) (Answers not_accepted)))
+    → ((last : Bool) → P (Answers name_needed) (cond last (Answers too_many) (Answers name_needed)))
     → (accepts : Accounts) (left : Option ℕ) (stage : Stage) (password : Bytes)
-    → P (limited left true (decided_by_password accepts stage password))
-by-password P logs refused needs last accepts left stage password = by_stage stage where
-  by_last : (decision : Decision) → P decision
-      → P (cond (is_last left) (Answers too_many) decision)
-  by_last decision own = cond_both (is_last left) (Answers too_many) decision P (λ _. last) (λ _. own)
-
-  by_stage : (stage : Stage) → P (limited left true (decided_by_password accepts stage password))
-  by_stage (Named name) = cond_both (accepts name password) (LogsIn name) (Answers not_accepted)
-      (λ decision. P (limited left true decision)) (λ _. logs name)
-      (λ _. by_last (Answers not_accepted) refused)
-  by_stage stage = by_last (Answers name_needed) needs
+    → P (decided_by_password accepts stage password)
+    (limited left true (decided_by_password accepts stage password))
+by-password P logs refused needs accepts left (Named name) password =
+    cond_both (accepts name password) (LogsIn name) (Answers not_accepted)
+    (λ decision. P decision (limited left true decision)) (λ _. logs name)
+    (λ _. refused (is_last left))
+by-password P logs refused needs accepts left stage password = needs (is_last left)

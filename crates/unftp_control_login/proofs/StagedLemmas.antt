@@ -1,5 +1,5 @@
 -- A gate whose accounts and stage are others: it does the same at events that are alike.
-use Rattle.std.proofs.Common.{◌≡◌, Bool, ◌||◌, List, [], ◌∷◌, refl, sym, ap, subst, ◌∙◌}
+use Rattle.std.proofs.Common.{◌≡◌, ℕ, Option, Bool, ◌||◌, List, [], ◌∷◌, refl, sym, ap, subst, ◌∙◌}
 use Rattle.unftp_control_defs.specs.Events.{Fault, FtpEvent, is_quit}
 use Rattle.unftp_control_defs.specs.FtpReply.{FtpReply}
 use Rattle.unftp_control_defs.specs.Run.{SessionLaw, after, last_state, state_after, turn}
@@ -9,8 +9,7 @@ use Rattle.unftp_control_login.specs.HandlerCalls.{FailsIn, calls_in}
 use Rattle.unftp_control_login.specs.Gate.{Decision, Gated, PassesOn, all_calls_by, calls_by, decided, decides, gated_law, is_passed, left_after, limited, reply_by, stage_after, state_by}
 use Rattle.unftp_control_login.specs.LoginLimit.{is_pass}
 use Rattle.unftp_control_login.specs.Promises.{gate_calls}
-use Rattle.unftp_control_login.proofs.StageLemmas.{stage_after_all}
-use Rattle.unftp_control_login.proofs.StepLemmas.{after-lifted, lifted, lifted-lifted}
+use Rattle.unftp_control_login.proofs.StageLemmas.{stage_after_all, after-lifted, lifted, lifted-lifted}
 
 -- Gates with these accounts, at these stages, decide the same at these events.
 pub record Alike (accepts other : Accounts) (stage other_stage : Stage) (event another : FtpEvent)
@@ -40,32 +39,32 @@ module _ {S : Type 0} (law : SessionLaw S) where
   gate = gated_law law
 
   -- all replies to an event of which this is decided, with the states after them
-  abbrev next_by : Accounts → Stage → Gated S → Bool → Decision → Bool → Gated S
-  next_by accepts stage s at_pass decision quit = record {
+  abbrev next_by : Accounts → Stage → Gated S → Option ℕ → Decision → Bool → Gated S
+  next_by accepts stage s left decision quit = record {
     accepts = accepts;
-    left = left_after s.left at_pass decision;
+    left = left;
     stage = stage;
     quit = s.quit || quit;
     passed = is_passed decision;
     inner = state_by law s.inner decision;
   }
 
-  abbrev turn_by : Accounts → Stage → Gated S → Bool → Decision → Bool
+  abbrev turn_by : Accounts → Stage → Gated S → Option ℕ → Decision → Bool
       → List (FtpReply × Gated S)
-  turn_by accepts stage s at_pass decision quit =
-      let n = next_by accepts stage s at_pass decision quit in
+  turn_by accepts stage s left decision quit =
+      let n = next_by accepts stage s left decision quit in
       (reply_by law s.inner decision, n) ∷ gate.more n
 
-  turn-lifted : (accepts : Accounts) (stage : Stage) (s : Gated S) (at_pass : Bool)
+  turn-lifted : (accepts : Accounts) (stage : Stage) (s : Gated S) (left : Option ℕ)
       (decision : Decision) (quit : Bool)
-      → turn_by accepts stage s at_pass decision quit
-      ≡ lifted (at accepts stage) (turn_by s.accepts s.stage s at_pass decision quit)
-  turn-lifted accepts stage s at_pass (PassesOn event) quit =
-      let n = next_by s.accepts s.stage s at_pass (PassesOn event) quit in
+      → turn_by accepts stage s left decision quit
+      ≡ lifted (at accepts stage) (turn_by s.accepts s.stage s left decision quit)
+  turn-lifted accepts stage s left (PassesOn event) quit =
+      let n = next_by s.accepts s.stage s left (PassesOn event) quit in
       ap (λ later. (law.says s.inner event, at accepts stage n) ∷ later)
       (sym (lifted-lifted (λ inner. record n { inner = inner }) (at accepts stage)
       (law.more (law.next s.inner event))))
-  turn-lifted accepts stage s at_pass decision quit = refl
+  turn-lifted accepts stage s left decision quit = refl
 
   module _ (accepts other : Accounts) (stage other_stage : Stage) (s : Gated S)
       (event another : FtpEvent) (alike : Alike accepts other stage other_stage event another) where
@@ -76,10 +75,12 @@ module _ {S : Type 0} (law : SessionLaw S) where
         ≡ lifted (at other (stage_after other other_stage another))
         (turn gate (at accepts stage s) event)
     turns =
-        (λ i. turn_by other (stage_after other other_stage another) s (sym alike.pass i)
-        (same_decision i) (sym alike.quit i))
+        (λ i. turn_by other (stage_after other other_stage another) s
+        (left_after s.left (sym alike.pass i) (sym alike.decision i)) (same_decision i)
+        (sym alike.quit i))
         ∙ turn-lifted other (stage_after other other_stage another)
-        (at accepts (stage_after accepts stage event) s) (is_pass event)
+        (at accepts (stage_after accepts stage event) s)
+        (left_after s.left (is_pass event) (decided accepts stage event))
         (decides (at accepts stage s) event) (is_quit event)
 
     pub goes : after gate (at other other_stage s) another

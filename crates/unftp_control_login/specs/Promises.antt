@@ -1,5 +1,5 @@
 -- What a login gate promises of all inputs.
-use Rattle.std.specs.Prelude.{◌≡◌, ℕ, ◌<◌, ⊤, ◌⊎◌, false, IsTrue, length, take, List, [], ◌∷◌, ◌++◌, Option, None, Some}
+use Rattle.std.specs.Prelude.{◌≡◌, ℕ, ◌<◌, ⊤, ◌⊎◌, false, IsTrue, length, take, List, [], ◌∷◌, ◌++◌, Option}
 use Rattle.std.specs.List.{AllByRecursion}
 use Rattle.std.specs.Option.{IfSome}
 use Rattle.unftp_control_defs.specs.Bytes.{Bytes, LF, Lacks}
@@ -88,20 +88,26 @@ pub record MembersAlone (limit : Option ℕ) (accepts : Accounts) (input output 
   pub alone : AtEachPlace (AfterLogin accepts) []
       (take (length (cut_reads read)) (events limit input)) (cut_reads read)
 
--- The accounts answer alike to both passwords, for the name that was given by these events.
-abbrev pub AnsweredAlike : Accounts → List FtpEvent → Bytes → Bytes → Type 0
-AnsweredAlike accepts before password other =
-    (name : Bytes) → GaveName name before → accepts name password ≡ accepts name other
+-- These accounts answer about the first password as those about the other one, for the name that was
+-- given by these events.
+abbrev pub AnsweredAlike : Accounts → Accounts → List FtpEvent → Bytes → Bytes → Type 0
+AnsweredAlike accepts other before password another =
+    (name : Bytes) → GaveName name before → accepts name password ≡ other name another
 
 -- The same event after these, but for passwords that are answered alike.
-abbrev pub LooksAlike : Accounts → List FtpEvent → FtpEvent → FtpEvent → Type 0
-LooksAlike accepts before (Command (Pass password)) (Command (Pass other)) =
-    AnsweredAlike accepts before password other
-LooksAlike accepts before event other = event ≡ other
+abbrev pub LooksAlike : Accounts → Accounts → List FtpEvent → FtpEvent → FtpEvent → Type 0
+LooksAlike accepts other before (Command (Pass password)) (Command (Pass another)) =
+    AnsweredAlike accepts other before password another
+LooksAlike accepts other before event another = event ≡ another
 
 -- They are as many, and each is like the other one at its place.
-abbrev pub AllLookAlike : Accounts → List FtpEvent → List FtpEvent → Type 0
-AllLookAlike accepts events others = AtEachPlace (LooksAlike accepts) [] events others
+abbrev pub AllLookAlike : Accounts → Accounts → List FtpEvent → List FtpEvent → Type 0
+AllLookAlike accepts other events others = AtEachPlace (LooksAlike accepts other) [] events others
+
+-- Both answer alike to all that these events may ask: whether a password is that of the name that
+-- was given before it.
+abbrev pub AgreeOnAll : Accounts → Accounts → List FtpEvent → Type 0
+AgreeOnAll accepts other events = AllLookAlike accepts other events events
 
 -- The lines of the inputs are the same, but those that give a password.
 abbrev pub GivesPassword : Option ℕ → Bytes → Type 0
@@ -133,18 +139,6 @@ abbrev pub calls_for : {S : Type 0} → Option ℕ → (S → FtpEvent → List 
     → Bytes → List (List Call)
 calls_for limit calls law s input = at_each calls law s (run_for limit law s input)
 
--- Both answer alike to what the event after these may ask: whether a password is that of the name
--- that was given before it.
-abbrev pub AgreeOn : Accounts → Accounts → List FtpEvent → FtpEvent → Type 0
-AgreeOn accepts other before (Command (Pass password)) =
-    (name : Bytes) → GaveName name before → accepts name password ≡ other name password
-AgreeOn accepts other before event = ⊤
-
--- to all that these events may ask
-abbrev pub AgreeOnAll : Accounts → Accounts → List FtpEvent → Type 0
-AgreeOnAll accepts other events =
-    AtEachPlace (λ before event _. AgreeOn accepts other before event) [] events events
-
 -- the line is within the limit
 abbrev pub Fits : Option ℕ → Bytes → Type 0
 Fits limit line = exceeds limit (length line) ≡ false
@@ -171,26 +165,26 @@ module _ {S : Type 0} (limit : Option ℕ) (accepts : Accounts) (law : SessionLa
   -- Two inputs whose events look alike have one output,
   abbrev pub PasswordsStayHidden : Type 0
   PasswordsStayHidden = (input other : Bytes)
-      → AllLookAlike accepts (events limit input) (events limit other)
+      → AllLookAlike accepts accepts (events limit input) (events limit other)
       → text_for limit law s input ≡ text_for limit law s other
 
   -- and make the same calls,
   abbrev pub CallsHidePasswords : (S → FtpEvent → List Call) → Type 0
   CallsHidePasswords calls = (input other : Bytes)
-      → AllLookAlike accepts (events limit input) (events limit other)
+      → AllLookAlike accepts accepts (events limit input) (events limit other)
       → calls_for limit calls law s input ≡ calls_for limit calls law s other
 
   -- and where all other lines are the same, their errors too.
   abbrev pub ErrorsHidePasswords : Type 0
   ErrorsHidePasswords = (input other : Bytes)
-      → AllLookAlike accepts (events limit input) (events limit other)
+      → AllLookAlike accepts accepts (events limit input) (events limit other)
       → DifferInPasswords limit input other → FailsAlike limit law s input other
 
   -- Two passwords that the accounts answer alike for the name that was given have one output.
   abbrev pub RefusedPasswordsLookAlike : Type 0
   RefusedPasswordsLookAlike = (before after password other : Bytes) → incomplete_line before ≡ []
       → PasswordFits limit password → PasswordFits limit other
-      → AnsweredAlike accepts (events limit before) password other
+      → AnsweredAlike accepts accepts (events limit before) password other
       → text_for limit law s (before ++ (pass_line password ++ after))
       ≡ text_for limit law s (before ++ (pass_line other ++ after))
 

@@ -17,7 +17,7 @@ ghost use Rattle.unftp_control_login.specs.declared.stage.Stage.TheVariants.{Log
 ghost use Rattle.unftp_control_login.specs.HandlerCalls.{AllCalled, Asks, AsksFurther, CallsMade, FailedCall, Makes, Passes, tells};
 ghost use Rattle.unftp_control_login.specs.Gate.{Answers, LogsIn, PassesOn, calls_by, closed, gated_law, limited_to, logged_in, login_needed, name_needed, not_accepted, password_needed, questions};
 ghost use Rattle.unftp_control_login.specs.GateState.{GateCalled};
-ghost use Rattle.unftp_control_login.specs.LoginLimit.{EndsWith, failed_in_run, too_many};
+ghost use Rattle.unftp_control_login.specs.LoginLimit.{EndsWith, failed_in_run, is_failure, too_many};
 ghost use Rattle.unftp_control_login.specs.Promises.{AgreeOnAll, AllLookAlike, DifferInPasswords, FailsAlike, IsRefusedLogin, IsTurnedAway, LearnsName, LooksAlike, MembersAlone, NoFailure, PasswordFits, ReachesHandler, SendsPlainExchanges, ServesMembersAlone, gate_calls};
 ghost use Rattle.unftp_control_login.specs.Examples.{anna, anna_and_ben, answers_once, ben, counting, here, inner_with, login, only_anna, opened, pass, secret, silent, so_far, transferring, user, wrong};
 
@@ -205,15 +205,15 @@ pub fn refused_logins()
 /// Which passwords look alike: after a name, those that are both refused for it, though one is that
 /// of another user.
 pub fn passwords_look_alike()
-    ensures alike { LooksAlike only_anna (user anna ∷ []) (pass wrong) (pass (codes "other")) }
-    ensures his_own { LooksAlike anna_and_ben (user ben ∷ []) (pass wrong)
+    ensures alike { LooksAlike only_anna only_anna (user anna ∷ []) (pass wrong) (pass (codes "other")) }
+    ensures his_own { LooksAlike anna_and_ben anna_and_ben (user ben ∷ []) (pass wrong)
         (pass (codes "other")) → ⊥ }
-    ensures told_apart { LooksAlike only_anna (user anna ∷ []) (pass wrong) (pass secret) → ⊥ }
-    ensures no_name { LooksAlike only_anna [] (pass wrong) (pass secret) }
-    ensures other_events { LooksAlike only_anna [] (Command Noop) (Command Quit) → ⊥ }
-    ensures each { AllLookAlike anna_and_ben (user anna ∷ pass wrong ∷ Command Noop ∷ [])
+    ensures told_apart { LooksAlike only_anna only_anna (user anna ∷ []) (pass wrong) (pass secret) → ⊥ }
+    ensures no_name { LooksAlike only_anna only_anna [] (pass wrong) (pass secret) }
+    ensures other_events { LooksAlike only_anna only_anna [] (Command Noop) (Command Quit) → ⊥ }
+    ensures each { AllLookAlike anna_and_ben anna_and_ben (user anna ∷ pass wrong ∷ Command Noop ∷ [])
         (user anna ∷ pass (codes "other") ∷ Command Noop ∷ []) }
-    ensures one_more { AllLookAlike only_anna (Command Noop ∷ []) [] → ⊥ }
+    ensures one_more { AllLookAlike only_anna only_anna (Command Noop ∷ []) [] → ⊥ }
     ensures same_lines { DifferInPasswords None (codes "NOOP\r\nPASS a\r\n")
         (codes "NOOP\r\nPASS b\r\n") }
     ensures other_lines { DifferInPasswords None (codes "TYPE a\r\n") (codes "TYPE i\r\n") → ⊥ }
@@ -225,8 +225,7 @@ pub fn a_limit_counts()
     ensures replies { replies (gated_law counting) (limited_to 2 (closed only_anna 0))
         (user anna ∷ pass wrong ∷ user anna ∷ pass secret ∷ pass wrong ∷ [])
         ≡ password_needed ∷ not_accepted ∷ password_needed ∷ logged_in ∷ too_many ∷ [] }
-    ensures count { failed_in_run (gated_law counting)
-        (limited_to 2 (closed only_anna 0))
+    ensures count { failed_in_run (gated_law counting) (limited_to 2 (closed only_anna 0))
         (pass wrong ∷ user anna ∷ pass secret ∷ pass wrong ∷ pass wrong ∷ []) ≡ 2 }
     ensures done { ((gated_law counting).done (limited_to 0 (closed only_anna 0)) ≡ true)
         × ((gated_law counting).done (limited_to 1 (closed only_anna 9)) ≡ true) }
@@ -234,5 +233,11 @@ pub fn a_limit_counts()
         (limited_to 1 (closed only_anna 0)) (Command Noop ∷ pass wrong ∷ Command Noop ∷ []) }
     ensures not_last { EndsWith too_many (gated_law counting)
         (limited_to 2 (closed only_anna 0)) (pass wrong ∷ []) → ⊥ }
+    ensures left { (last_state (gated_law counting) (limited_to 2 (closed only_anna 0))
+        (pass wrong ∷ login)).left ≡ Some 1 }
+    ensures unlimited { failed_in_run (gated_law counting) (closed only_anna 0)
+        (pass wrong ∷ pass wrong ∷ []) ≡ 2 }
+    ensures none { failed_in_run (gated_law counting) (closed only_anna 0) login ≡ 0 }
+    ensures preliminary { is_failure opened ≡ false }
     ensures not_ended { EndsWith here counting 0 (Command Noop ∷ []) → ⊥ }
 {}

@@ -2,12 +2,12 @@
 //! memory for a reply.
 ghost use Rattle.std.specs.Prelude.{◌≡◌, ◌∷◌, [], List, OnOk};
 ghost use Rattle.unftp_control_defs.specs.FtpReply.{CodeAndMsg};
-ghost use Rattle.unftp_control_defs.specs.Run.{after, state_after};
+ghost use Rattle.unftp_control_defs.specs.Run.{after};
 ghost use Rattle.unftp_control_message.specs.ReplyMeaning.{number_of};
 ghost use Rattle.unftp_control_serve.specs.Answering.{FurtherAnswer};
 ghost use Rattle.unftp_control_serve.specs.EventMeaning.{event_meant};
 ghost use Rattle.unftp_control_serve.specs.Writing.{Begins};
-ghost use Rattle.unftp_control_login.specs.HandlerCalls.{AsksFurther, CallsMade, asks_for, tells};
+ghost use Rattle.unftp_control_login.specs.HandlerCalls.{AsksFurther, CallsMade, tells};
 ghost use Rattle.unftp_control_login.specs.CallsOf.{calls_of};
 ghost use Rattle.unftp_control_login.specs.Gate.{Answers, PassesOn};
 ghost use Rattle.unftp_control_login.specs.GateState.{Decided};
@@ -81,21 +81,6 @@ impl<H: Session> Inner<H> {
             (calls_of H.failures self.old) (calls_of H.failures self.new) result }
     {
         drop(self.pass_on(alloc, event)?);
-        self.drain(alloc)
-    }
-
-    /// Takes all replies that follow, and drops them.
-    fn drain(&mut self, alloc: Global) -> Result<(), ControlChanError>
-        ensures heard { Begins (H.heard self.new.handler) (H.heard self.old.handler) }
-        ensures next { OnOk result ((said : List H.Said)
-            → Begins said (H.heard self.new.handler) → H.state self.new.handler
-            ≡ state_after (H.state self.old.handler)
-            ((H.law said).more (H.state self.old.handler))) }
-        ensures calls { (said : List H.Said) → Begins said (H.heard self.new.handler)
-            → CallsMade (H.law said) (asks_for (H.state self.old.handler)
-            ((H.law said).more (H.state self.old.handler)))
-            (calls_of H.failures self.old) (calls_of H.failures self.new) result }
-    {
         while let Some(reply) = self.further(alloc)? {
             drop(reply);
         }

@@ -43,8 +43,7 @@ pub fn members_reach_the_handler<H: Session>()
 /// so.
 pub fn members_alone_are_served<H: Session>()
     ensures { (said : List H.Said) (accepts : Accounts) (failures : Option ℕ) (inner : H.State)
-        → ServesMembersAlone accepts (gated_law (H.law said))
-        (guarded failures accepts inner) }
+        → ServesMembersAlone accepts (gated_law (H.law said)) (guarded failures accepts inner) }
 {}
 
 /// In bytes, of a handler that gives each event preliminary replies and then a final one, all sent
@@ -61,10 +60,9 @@ pub fn members_alone_are_served_in_bytes<H: Session>()
 /// The output reveals about a password only whether it was accepted: two inputs whose events differ
 /// in passwords that the accounts answer alike, for the name that was given, have one output.
 pub fn passwords_stay_hidden<H: Session>()
-    ensures { (said : List H.Said)
-        (limit : Option ℕ) (accepts : Accounts) (failures : Option ℕ) (inner : H.State)
-        → PasswordsStayHidden limit accepts (gated_law (H.law said))
-        (guarded failures accepts inner) }
+    ensures { (said : List H.Said) (limit : Option ℕ) (accepts : Accounts)
+        (failures : Option ℕ) (inner : H.State) → PasswordsStayHidden limit accepts
+        (gated_law (H.law said)) (guarded failures accepts inner) }
 {}
 
 /// Nor does an error reveal more, where the inputs differ only in lines that give passwords:
@@ -73,14 +71,12 @@ pub fn passwords_stay_hidden<H: Session>()
 /// receives the same, and memory is asked for the same replies. It fails where one of these calls
 /// fails, and only there (`calls` of its `first` and `further`).
 pub fn errors_hide_passwords<H: Session>()
-    ensures errors { (said : List H.Said)
-        (limit : Option ℕ) (accepts : Accounts) (failures : Option ℕ) (inner : H.State)
-        → ErrorsHidePasswords limit accepts (gated_law (H.law said))
-        (guarded failures accepts inner) }
-    ensures calls { (said : List H.Said)
-        (limit : Option ℕ) (accepts : Accounts) (failures : Option ℕ) (inner : H.State)
-        → CallsHidePasswords limit accepts (gated_law (H.law said))
-        (guarded failures accepts inner) (gate_calls (H.law said)) }
+    ensures errors { (said : List H.Said) (limit : Option ℕ) (accepts : Accounts)
+        (failures : Option ℕ) (inner : H.State) → ErrorsHidePasswords limit accepts
+        (gated_law (H.law said)) (guarded failures accepts inner) }
+    ensures calls { (said : List H.Said) (limit : Option ℕ) (accepts : Accounts)
+        (failures : Option ℕ) (inner : H.State) → CallsHidePasswords limit accepts
+        (gated_law (H.law said)) (guarded failures accepts inner) (gate_calls (H.law said)) }
 {}
 
 /// What is written and called depends on the accounts only by their answers to what the session may
@@ -90,26 +86,23 @@ pub fn errors_hide_passwords<H: Session>()
 pub fn accounts_stay_hidden<H: Session>()
     ensures { (said : List H.Said)
         (limit : Option ℕ) (accepts other : Accounts) (failures : Option ℕ) (inner : H.State)
-        → AccountsStayHidden limit accepts other (gate_calls (H.law said))
-        (gated_law (H.law said)) (guarded failures accepts inner)
-        (guarded failures other inner) }
+        → AccountsStayHidden limit accepts other (gate_calls (H.law said)) (gated_law (H.law said))
+        (guarded failures accepts inner) (guarded failures other inner) }
 {}
 
 /// In bytes: two passwords that the accounts answer alike for the name that was given, in lines of
 /// PASS within the limit, give one output. So a wrong password gives what another user's gives.
 pub fn refused_passwords_look_alike<H: Session>()
-    ensures { (said : List H.Said)
-        (limit : Option ℕ) (accepts : Accounts) (failures : Option ℕ) (inner : H.State)
-        → RefusedPasswordsLookAlike limit accepts (gated_law (H.law said))
-        (guarded failures accepts inner) }
+    ensures { (said : List H.Said) (limit : Option ℕ) (accepts : Accounts)
+        (failures : Option ℕ) (inner : H.State) → RefusedPasswordsLookAlike limit accepts
+        (gated_law (H.law said)) (guarded failures accepts inner) }
 {}
 
 /// A login that is refused gives the same output whether its name is known or not.
 pub fn refused_logins_look_alike<H: Session>()
-    ensures { (said : List H.Said)
-        (limit : Option ℕ) (accepts : Accounts) (failures : Option ℕ) (inner : H.State)
-        → RefusedLoginsLookAlike limit accepts (gated_law (H.law said))
-        (guarded failures accepts inner) }
+    ensures { (said : List H.Said) (limit : Option ℕ) (accepts : Accounts)
+        (failures : Option ℕ) (inner : H.State) → RefusedLoginsLookAlike limit accepts
+        (gated_law (H.law said)) (guarded failures accepts inner) }
 {}
 
 /// In a session no more logins fail than the limit allows, and the last that may fail is answered

@@ -7,7 +7,7 @@ use Rattle.unftp_control_login.proofs.examples.accounts_answer_alike.Goals as go
 -- after a name, and one password of it
 pub returns-clause-alike : goal.returns-clause-alike
 returns-clause-alike c = (
-  tt,
+  refl,
   (
     λ name given. subst (λ name. only_anna name wrong ≡ anna_and_ben name wrong)
         (given-name only_anna anna name given) refl,

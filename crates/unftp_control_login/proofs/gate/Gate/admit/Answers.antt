@@ -1,4 +1,3 @@
-use Rattle.std.proofs.Common.{sym, ◌∙◌}
 use Rattle.std.proofs.lemmas.Result.{err_from_is_err_and}
 use Rattle.unftp_control_login.proofs.CalledLemmas.{made-first}
 use Rattle.unftp_control_login.proofs.GateLemmas.{logs-in}
