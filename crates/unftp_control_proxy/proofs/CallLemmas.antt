@@ -1,21 +1,19 @@
 -- What the calls of a proxy ensure says what passes in them.
-use Rattle.std.proofs.Common.{◌≡◌, ◌≢◌, ◌≤◌, ◌==◌, ◌-◌, ◌+◌, ◌||◌, eqb-true, ℕ, Bool, true, false, List, [], ◌∷◌, ◌++◌, length, drop, take, Option, None, Some, Ok, is_some, nat_lt, refl, sym, ap, subst, ◌∙◌, append_assoc, append-nil, arith, unwrap_or}
+use Rattle.std.proofs.Common.{◌≡◌, ◌≢◌, ◌≤◌, ◌==◌, ◌-◌, ◌+◌, ◌||◌, eqb-true, ℕ, Bool, true, false, List, [], ◌∷◌, ◌++◌, length, drop, take, Option, None, Some, Ok, is_some, nat_lt, refl, sym, ap, subst, ◌∙◌, append-nil, arith, unwrap_or}
 use Rattle.std.specs.Prelude.{if◌then◌else◌, nat_le}
-use Rattle.std.specs.List.{concat}
 use Rattle.std.proofs.Math.Seq.{drop-append_seam}
 use Rattle.std.proofs.lemmas.Bool.{false≢true, ltb-false}
 use Rattle.std.proofs.lemmas.Bool.Decides.{nat_tests}
-use Rattle.std.proofs.lemmas.List.{length-append, take-append-drop, take_at}
-use Rattle.unftp_control_defs.specs.Bytes.{Bytes, LF}
+use Rattle.std.proofs.lemmas.List.{take-append-drop, take_at}
+use Rattle.unftp_control_defs.specs.Bytes.{Bytes}
 use Rattle.unftp_control_defs.specs.Events.{exceeds}
 use Rattle.unftp_control_defs.specs.Forwarded.{forwarded_line}
 use Rattle.unftp_control_defs.specs.FtpCommand.{FtpCommand}
 use Rattle.unftp_control_defs.specs.FtpReply.{FtpReply, encoded}
-use Rattle.unftp_control_defs.specs.Lines.{IsLine, incomplete_line, lines_of}
+use Rattle.unftp_control_defs.specs.Lines.{IsLine}
 use Rattle.unftp_control_defs.specs.Outcome.{outcome}
 use Rattle.unftp_control_defs.specs.ReplyReader.{FrontReply}
 use Rattle.unftp_control_defs.specs.Turns.{is_preliminary}
-use Rattle.unftp_control_defs.proofs.LineLemmas.{Lines-lines_of}
 use Rattle.unftp_control_read.specs.ReplyDecoding.{PendingReplies}
 use Rattle.unftp_control_serve.specs.ClientLines.{front_line, unless_too_long}
 use Rattle.unftp_control_serve.specs.Decoder.{line_in, without_line}

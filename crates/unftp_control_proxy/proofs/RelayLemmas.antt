@@ -1,5 +1,5 @@
 -- What a relay lets pass in one step after the other passes in all.
-use Rattle.std.proofs.Common.{◌≡◌, ◌⊎◌, ◌+◌, ◌<◌, ℕ, Bool, [], ◌∷◌, ◌++◌, false, length, length-append, length-drop, drop, Option, Some, None, Result, Ok, Err, IfOk, OnErr, OnOk, inl, inr, refl, sym, ap, subst, ◌∙◌, append_assoc, append-nil, arith}
+use Rattle.std.proofs.Common.{◌≡◌, ◌⊎◌, ◌+◌, ◌<◌, ℕ, [], ◌∷◌, ◌++◌, false, length, length-append, length-drop, drop, Option, Some, None, Result, Ok, Err, IfOk, OnErr, OnOk, inl, inr, refl, sym, ap, subst, ◌∙◌, append_assoc, append-nil, arith}
 use Rattle.unftp_control_defs.specs.Bytes.{Bytes, LF}
 use Rattle.unftp_control_defs.specs.FtpReply.{FtpReply, encoded}
 use Rattle.unftp_control_defs.specs.Lines.{IsLine, lines_of}

@@ -18,8 +18,8 @@ use std::alloc::{AllocError, Global};
 use std::marker::Model;
 use std::mem;
 use unftp_control_client::Dialogue;
-use unftp_control_serve::{ClientLine, EventDecoder};
 use unftp_control_read::{FirstReply, FoundReply, NextReplyError, ReplyDecoder, find_reply};
+use unftp_control_serve::{ClientLine, EventDecoder};
 use unftp_control_write::{ForwardError, forward, is_line};
 
 /// What a proxy keeps and sends at most.
@@ -159,8 +159,7 @@ impl Proxy {
     pub fn next_line(&mut self) -> Option<ClientLine>
         ensures next { result
             ≡ first_client_line self.old.client.limit (lines_of self.old.client.bytes) }
-        ensures client {
-            self.new.client ≡ found_as self.old.client result self.new.client.scanned }
+        ensures client { self.new.client ≡ found_as self.old.client result self.new.client.scanned }
         ensures same { IsLookedFor self.old self.new }
     {
         self.client.find_line()

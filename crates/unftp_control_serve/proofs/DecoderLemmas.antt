@@ -1,7 +1,7 @@
 -- The first line of the pending bytes, as a decoder keeps it.
-use Rattle.std.proofs.Common.{◌≡◌, ℕ, ◌+◌, ◌-◌, ◌≤◌, Bool, true, false, [], ◌++◌, length, take, drop, Option, Some, None, Ok, refl, sym, ap, subst, ◌∙◌, arith, append_assoc, length-drop}
+use Rattle.std.proofs.Common.{◌≡◌, ℕ, ◌+◌, ◌-◌, ◌≤◌, true, false, [], ◌++◌, length, take, drop, Option, Some, None, Ok, refl, sym, ap, subst, ◌∙◌, arith, append_assoc, length-drop}
 use Rattle.std.specs.Prelude.{if◌then◌else◌, is_some}
-use Rattle.std.proofs.lemmas.List.{append_cancel_right, drop-drop, length-take-le, take-append-drop}
+use Rattle.std.proofs.lemmas.List.{append_cancel_right, drop-drop, take-append-drop}
 use Rattle.unftp_control_defs.specs.Bytes.{Bytes}
 use Rattle.unftp_control_defs.specs.Events.{Refused, event_for, event_of, exceeds, line_too_long}
 use Rattle.unftp_control_defs.specs.Lines.{IsLine, lines_of}
@@ -242,7 +242,7 @@ module _ {old new : Codec} {f : First} {dropped buf bytes : Bytes} {start line h
       → Finds old dropped kept new found × Counts old kept new found
   found_in found is = rw (new_is, is, bytes_are) (
     finds old dropped kept well.place_within
-    (subst (IsFirst old dropped kept) (unknown f none) well.first_is),
+        (subst (IsFirst old dropped kept) (unknown f none) well.first_is),
     counts old kept well.place_within.0,
   )
 

@@ -176,8 +176,7 @@ impl EventDecoder {
     pub fn find_line(&mut self) -> Option<ClientLine>
         ensures line { result ≡ first_client_line self.old.limit (lines_of self.old.bytes) }
         ensures found { self.new ≡ found_as self.old result self.new.scanned }
-        ensures scanned {
-            self.new.scanned + self.new.unscanned ≡ self.old.scanned + self.old.unscanned }
+        ensures scanned { self.new.scanned + self.new.unscanned ≡ self.old.scanned + self.old.unscanned }
         ensures never_fewer { self.old.scanned ≤ self.new.scanned }
         ensures buffered { self.new.buffered ≤ self.old.buffered }
     {
@@ -222,8 +221,7 @@ impl EventDecoder {
         requires { self.old.found ≡ false }
         ensures found { self.new ≡ found_as self.old
             (first_client_line self.old.limit (lines_of self.old.bytes)) self.new.scanned }
-        ensures scanned {
-            self.new.scanned + self.new.unscanned ≡ self.old.scanned + self.old.unscanned }
+        ensures scanned { self.new.scanned + self.new.unscanned ≡ self.old.scanned + self.old.unscanned }
         ensures never_fewer { self.old.scanned ≤ self.new.scanned }
         ensures buffered { self.new.buffered ≤ self.old.buffered }
     {
@@ -303,8 +301,7 @@ impl EventDecoder {
         ensures held { self.new.held ≡ self.old.held }
         ensures found { OnOk result (self.new.found ≡ false) }
         // no byte is scanned twice, also where the line stays
-        ensures scanned {
-            self.new.scanned + self.new.unscanned ≡ self.old.scanned + self.old.unscanned }
+        ensures scanned { self.new.scanned + self.new.unscanned ≡ self.old.scanned + self.old.unscanned }
         // out of memory is returned only for a complete line that may take some
         ensures may_run_out { OnErr result (MayRunOut self.old.limit self.old.bytes) }
         ensures never_fewer { self.old.scanned ≤ self.new.scanned }

@@ -1,6 +1,5 @@
-use Rattle.std.proofs.Common.{◌≡◌, Some, false, refl, sym, ap, subst, ◌∙◌}
+use Rattle.std.proofs.Common.{◌≡◌, Some, refl, sym, ap, subst, ◌∙◌}
 use Rattle.unftp_control_serve.specs.Decoder.{found_as}
-use Rattle.unftp_control_serve.specs.declared.decoder.ClientLine.TheVariants.{Complete, TooLong}
 use Rattle.unftp_control_proxy.proofs.FilterLemmas.{long_first, may_decide, short_line, took_long, took_short}
 use Rattle.unftp_control_proxy.proofs.driver.filter_line.Goals as goal
 

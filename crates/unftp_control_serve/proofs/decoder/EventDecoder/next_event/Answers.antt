@@ -1,4 +1,3 @@
-use Rattle.std.proofs.Common.{◌≡◌, None, refl, sym, ap, subst, ◌∙◌}
 use Rattle.std.specs.declared.alloc.AllocError.{AllocError}
 use Rattle.unftp_control_serve.proofs.DecoderLemmas.{first_taken, line_taken_is, none_there}
 use Rattle.unftp_control_serve.proofs.decoder.EventDecoder.next_event.Goals as goal
