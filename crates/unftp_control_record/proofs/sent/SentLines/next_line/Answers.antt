@@ -17,7 +17,7 @@ returns-clause-takes c =
     let greeted : c.args.self.now.is_greeted ≡ true = search rules in
     let next = c.find_line.ensures in
     line_logged c.args.self.now greeted next.line next.found c.in-Some.is c.take_line.new.self
-    c.in_ok-text.text.items c.take_line.ensures c.in_ok-text.ensures
+    c.in_ok-text.text.items c.take_line.ensures c.in_ok-text.ensures.logged
 
 pub returns-in_err-text-clause-takes : goal.returns-in_err-text-clause-takes
 returns-in_err-text-clause-takes c =
