@@ -18,7 +18,7 @@ returns g c =
     let files = c.new.ensures in
     -- the session before the first event
     let ends = simp (
-      c.with_limit.ensures,
+      c.with_limit-gate.ensures,
       limit,
       gate.accounts,
       gate.stage,

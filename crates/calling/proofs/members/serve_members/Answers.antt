@@ -12,7 +12,7 @@ returns g c =
     let gate = c.new.ensures in
     let said = simp (
       zero-add,
-      c.with_limit.ensures,
+      c.with_limit-gate.ensures,
       c.new-2.ensures,
       gate.accounts,
       gate.stage,
