@@ -8,7 +8,8 @@
  * A mark is where the program writes the line "begin" to standard error, in one write; it ends where the program writes "end". What is
  * allocated between the two is counted from 1 again, and where ALLOCATIONS_FD names a file descriptor, the lines "marked=N", "most=N",
  * the most bytes that one of these allocations asked for, and "all=N", the bytes that they asked for together, are written to it at the
- * end of each mark. When the program ends by itself, it writes the line "allocations=N" there.
+ * end of each mark. When the program ends by itself, it writes the lines "allocations=N" and "largest=N", the most bytes of all that one
+ * asked for, there.
  */
 #include <stddef.h>
 #include <stdio.h>
@@ -20,7 +21,7 @@
 extern void *__libc_malloc(size_t size);
 extern void *__libc_realloc(void *memory, size_t size);
 
-static long allocations, marked, most, all;
+static long allocations, largest, marked, most, all;
 static int is_marked;
 
 static long number_in(const char *name)
@@ -33,6 +34,8 @@ static int has_to_fail(size_t size)
 {
     long from = number_in("FAIL_FROM");
     allocations++;
+    if ((long)size > largest)
+        largest = (long)size;
     if (is_marked) {
         all += (long)size;
         if ((long)size > most)
@@ -85,4 +88,5 @@ ssize_t write(int descriptor, const void *bytes, size_t size)
 __attribute__((destructor)) static void report_all(void)
 {
     report("allocations", allocations);
+    report("largest", largest);
 }
