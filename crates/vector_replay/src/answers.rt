@@ -1,10 +1,11 @@
 //! Where answers go, and the marks of the calls.
 use crate::shown::Quoted;
 use crate::words::CaseError;
+use bstr::ByteSlice;
 use std::alloc::Global;
 use std::fmt::{Debug, Display};
-use std::io;
 use std::io::{BufWriter, Stderr, Stdout, Write};
+use std::{io, mem};
 use unftp_control_codecs::encode_reply;
 use unftp_control_message::reply::Reply;
 
@@ -21,12 +22,11 @@ pub struct Answers {
     pub alloc: Global,
     out: BufWriter<Stdout>,
     marks: Option<Stderr>,
-    /// The last text that was written, plain and under flags, and the last reply.
-    plain: String,
-    flagged: String,
-    reply: Vec<u8>,
+    /// The last text or reply, and that text under flags.
+    plain: Vec<u8>,
+    flagged: Vec<u8>,
     /// Whether the call of the line has begun.
-    is_begun: bool,
+    pub is_begun: bool,
     failed: io::Result<()>,
 }
 
@@ -38,9 +38,8 @@ impl Answers {
             alloc,
             out: BufWriter::new(alloc, rt.stdout())?,
             marks: if has_marks { Some(rt.stderr()) } else { None },
-            plain: String::with_capacity(alloc, ROOM)?,
-            flagged: String::with_capacity(alloc, ROOM)?,
-            reply: Vec::with_capacity(alloc, ROOM)?,
+            plain: Vec::with_capacity(alloc, ROOM)?,
+            flagged: Vec::with_capacity(alloc, ROOM)?,
             is_begun: false,
             failed: Ok(()),
         })
@@ -66,22 +65,26 @@ impl Answers {
         }
     }
 
+    /// Writes the last text or reply between quotes.
+    fn put_plain(&mut self) {
+        let written = write!(self.out, "{}", Quoted(self.plain.as_slice()));
+        self.note(written);
+    }
+
     /// Writes a text between quotes, and ` alike` where it is the same under flags.
     pub fn put_text(&mut self, plain: impl Display + Drop, flagged: impl Display + Drop) {
         if fill(&mut self.plain, plain) && fill(&mut self.flagged, flagged) {
-            let written = write!(self.out, "{}", Quoted(self.plain.as_bytes()));
             let is_alike = self.plain == self.flagged;
-            self.note(written);
+            self.put_plain();
             self.put_where(is_alike, " alike");
         }
     }
 
     /// Writes the bytes of a reply.
     pub fn put_reply(&mut self, reply: &Reply) {
-        self.reply.clear();
-        let encoded = encode_reply(reply, &mut self.reply);
-        let written = write!(self.out, "{}", Quoted(self.reply.as_slice()));
-        self.note(written);
+        self.plain.clear();
+        let encoded = encode_reply(reply, &mut self.plain);
+        self.put_plain();
         self.put_where(encoded.is_err(), " failed");
     }
 
@@ -118,17 +121,9 @@ impl Answers {
             return false;
         };
         let is_filled = fill(&mut self.plain, format_args!("{error:?}"));
-        let text = self.plain.as_str();
-        let is_so = is_filled && (text.contains("OutOfMemory") || text == "AllocError");
-        if is_so {
-            self.mark("out of memory\n");
-        }
-        is_so
-    }
-
-    /// Whether the line's call ran out of memory, and the line is answered once more.
-    pub fn is_again(&mut self, answered: &Answered) -> bool {
-        let is_so = self.is_begun && matches!(answered, Err(CaseError::OutOfMemory));
+        let text = self.plain.as_slice();
+        let (name, other) = (b"OutOfMemory".as_slice(), b"AllocError".as_slice());
+        let is_so = is_filled && (text.contains_str(name) || text == other);
         if is_so {
             self.mark("out of memory\n");
         }
@@ -146,10 +141,7 @@ impl Answers {
         self.is_begun = false;
         self.mark("end\n");
         self.put("\n");
-        match &self.failed {
-            Ok(()) => Ok(()),
-            Err(error) => Err(error.kind().into()),
-        }
+        mem::replace(&mut self.failed, Ok(()))
     }
 
     /// Writes what is buffered.
@@ -159,7 +151,7 @@ impl Answers {
 }
 
 /// Makes this the text; whether there was room.
-fn fill(text: &mut String, shown: impl Display + Drop) -> bool {
+fn fill(text: &mut Vec<u8>, shown: impl Display + Drop) -> bool {
     text.clear();
     write!(text, "{shown}").is_ok()
 }

@@ -1,16 +1,15 @@
-//! The handlers of sessions.
-ghost use Rattle.std.specs.Prelude.{◌≡◌, IfOk};
+//! The streams and the handlers of sessions, which fail when they are asked to.
+ghost use Rattle.std.specs.Prelude.{◌≡◌, IfOk, Some};
 ghost use Rattle.std.specs.Io.{WritesAtMost};
 ghost use Rattle.unftp_control_message.specs.CommandMeaning.{command_of};
 ghost use Rattle.unftp_control_message.specs.ReplyMeaning.{reply_of};
 ghost use Rattle.unftp_control_serve.specs.EventMeaning.{event_meant};
 ghost use Rattle.vector_replay.specs.Script.{ScriptState, command_reply, event_reply, is_help, script_law};
 
-use crate::streams::{Pieces, Turns};
 use itoa::Buffer;
 use std::alloc::{AllocError, Global};
 use std::io;
-use std::io::Read;
+use std::io::{Read, Write};
 use transferring::{Answers, DataConnection};
 use unftp_control_answers::Help;
 use unftp_control_message::Command;
@@ -18,29 +17,93 @@ use unftp_control_message::reply::error::ControlChanError;
 use unftp_control_message::reply::{Reply, ReplyCode};
 use unftp_control_serve::{Count, Event, Handler};
 
+/// What each call does, by words that commas divide; the last one is that of all later calls too.
+#[derive(Clone, Copy)]
+pub struct Turns<'a>(pub &'a str);
+
+impl Turns<'_> {
+    /// The most bytes of the next call, which its word is; or by `E` and a number the system's
+    /// error with which it fails. By another word, as `all` or `ok`, it does all that it can.
+    pub fn next(&mut self) -> io::Result<usize> {
+        let (turn, later) = self.0.split_once(',').unwrap_or((self.0, self.0));
+        self.0 = later;
+        match turn.strip_prefix("E") {
+            Some(number) => Err(io::Error::from_raw_os_error(number.parse().unwrap_or(0))),
+            None => Ok(turn.parse().unwrap_or(usize::MAX)),
+        }
+    }
+
+    /// The next call, which takes and gives no bytes.
+    pub fn pass(&mut self) -> io::Result<()> {
+        let _ = self.next()?;
+        Ok(())
+    }
+}
+
+/// Gives pieces of its bytes.
+#[derive(Drop)]
+pub struct Pieces<'a, 'b> {
+    /// The bytes that were not read.
+    pub rest: &'a [u8],
+    /// How many reads were made.
+    pub reads: usize,
+    /// The most bytes that a read gives.
+    pub step: usize,
+    pub turns: Turns<'b>,
+}
+
+impl Read for Pieces<'_, '_> {
+    ghost remaining = { λ pieces. Some pieces.rest.now };
+
+    fn read(&mut self, buf: &mut [u8]) -> io::Result<usize> {
+        self.reads = self.reads.saturating_add(1);
+        // a read of no bytes would be the end of the input, and no case has one
+        let most = self.turns.next()?.min(self.step).max(1);
+        let n = buf.len().min(most).min(self.rest.len());
+        let (taken, rest) = self.rest.split_at(n);
+        buf[..n].copy_from_slice(taken);
+        self.rest = rest;
+        Ok(n)
+    }
+}
+
+/// Holds what is written.
+#[derive(Drop)]
+pub struct Room<'a> {
+    pub held: Vec<u8>,
+    /// How many flushes succeeded.
+    pub flushed: usize,
+    pub writes: Turns<'a>,
+    pub flushes: Turns<'a>,
+}
+
+impl Write for Room<'_> {
+    ghost contents = { λ room. Some room.held.items };
+
+    fn write(&mut self, buf: &[u8]) -> io::Result<usize> {
+        let n = self.writes.next()?.min(buf.len());
+        self.held.extend_from_slice(buf.split_at(n).0)?;
+        Ok(n)
+    }
+
+    fn flush(&mut self) -> io::Result<()> {
+        self.flushes.pass()?;
+        self.flushed = self.flushed.saturating_add(1);
+        Ok(())
+    }
+}
+
 /// Answers a command with its value or OK, HELP with several lines and a refused line with its kind,
 /// or nothing at all; it is done once QUIT came. At an event whose turn is an error it fails with
 /// that of the line, or else with the turn's.
 #[derive(Drop)]
 pub struct Scripted<'a> {
-    is_silent: bool,
-    turns: Turns<'a>,
+    pub is_silent: bool,
+    pub turns: Turns<'a>,
     /// How many events it has taken.
     pub taken: u32,
-    has_quit: bool,
-    failures: Count,
-}
-
-impl<'a> Scripted<'a> {
-    pub fn new(is_silent: bool, turns: Turns<'a>) -> Scripted<'a> {
-        Scripted {
-            is_silent,
-            turns,
-            taken: 0,
-            has_quit: false,
-            failures: Count::new(),
-        }
-    }
+    pub has_quit: bool,
+    pub failures: Count,
 }
 
 impl Handler for Scripted<'_> {
@@ -139,7 +202,8 @@ const STEP: usize = 4;
 #[derive(Drop)]
 pub struct Wire<'a> {
     pieces: Pieces<'static, 'a>,
-    taken: Vec<u8>,
+    /// What it took.
+    pub taken: Vec<u8>,
     answers: Answers,
 }
 
@@ -147,15 +211,15 @@ impl<'a> Wire<'a> {
     /// A data connection whose calls have these turns.
     pub fn new(alloc: Global, turns: Turns<'a>) -> Result<Wire<'a>, AllocError> {
         Ok(Wire {
-            pieces: Pieces::new(GIVEN, STEP, turns),
+            pieces: Pieces {
+                rest: GIVEN,
+                reads: 0,
+                step: STEP,
+                turns,
+            },
             taken: Vec::with_capacity(alloc, ROOM)?,
             answers: Answers::new(),
         })
-    }
-
-    /// What it took.
-    pub fn sent(&self) -> &[u8] {
-        self.taken.as_slice()
     }
 }
 
@@ -164,7 +228,7 @@ impl DataConnection for Wire<'_> {
 
     fn open(&mut self) -> io::Result<()> {
         self.pieces.rest = GIVEN;
-        let result = pass(&mut self.pieces.turns);
+        let result = self.pieces.turns.pass();
         self.answers.opened(&result);
         result
     }
@@ -182,16 +246,10 @@ impl DataConnection for Wire<'_> {
     }
 
     fn close(&mut self) -> io::Result<()> {
-        let result = pass(&mut self.pieces.turns);
+        let result = self.pieces.turns.pass();
         self.answers.closed(&result);
         result
     }
-}
-
-/// The next turn, of a call that takes and gives no bytes.
-fn pass(turns: &mut Turns<'_>) -> io::Result<()> {
-    let _ = turns.next()?;
-    Ok(())
 }
 
 /// Takes some of these bytes, by the next turn.

@@ -1,19 +1,21 @@
-//! Calls on lines, passwords and errors.
-use crate::answers::{Answered, Answers};
+//! Calls that read and write the line of a command, and those on passwords and errors.
+use crate::answers::{Answered, Answers, once_more};
 use crate::shown::{Quoted, Shown};
-use crate::words::{CaseError, Word, only_bytes, only_text};
+use crate::words::{CaseError, Word, Words};
 use bytes::Bytes;
 use std::alloc::Global;
 use std::fmt::{Debug, Display};
 use std::io;
 use unftp_control_client::SendError;
-use unftp_control_codecs::EncodeLinesError;
-use unftp_control_codecs::line_parser::{ParseError, ParseErrorKind, is_verb, parse};
+use unftp_control_codecs::line_parser::{ParseError, ParseErrorKind, is_verb, parse, parts};
+use unftp_control_codecs::{EncodeLinesError, FtpCodec};
 use unftp_control_message::Command;
+use unftp_control_message::parts::{Parts, Value};
 use unftp_control_message::password::Password;
 use unftp_control_message::reply::error::{ControlChanError, ControlChanErrorKind};
+use unftp_control_message::sent::Sent;
 use unftp_control_read::{NextReplyError, ReadReplyError, ReceiveError};
-use unftp_control_write::{ForwardError, WriteCommandError};
+use unftp_control_write::{ForwardError, WriteCommandError, forward, write_command};
 
 /// The command that a line is.
 pub fn read_command(alloc: Global, line: &[u8]) -> Result<Command, CaseError> {
@@ -21,7 +23,7 @@ pub fn read_command(alloc: Global, line: &[u8]) -> Result<Command, CaseError> {
 }
 
 /// Writes why a line is refused; memory that ran out is no reason.
-pub fn put_refusal(error: ParseError, answers: &mut Answers) -> Answered {
+fn put_refusal(error: ParseError, answers: &mut Answers) -> Answered {
     match error.kind() {
         ParseErrorKind::OutOfMemory => Err(CaseError::OutOfMemory),
         kind => {
@@ -32,8 +34,8 @@ pub fn put_refusal(error: ParseError, answers: &mut Answers) -> Answered {
 }
 
 /// `parse LINE`
-pub fn answer_parse(words: &[Word<'_>], answers: &mut Answers) -> Answered {
-    let line = only_bytes(words)?;
+pub fn answer_parse(words: &mut Words<'_>, answers: &mut Answers) -> Answered {
+    let line = words.bytes()?;
     match parse(answers.begin(), line) {
         Ok(command) => {
             answers.put(format_args!("ok {}", Shown(&command)));
@@ -59,144 +61,217 @@ fn put_clone(command: Command, answers: &mut Answers) -> Answered {
 }
 
 /// `display LINE`
-pub fn answer_display(words: &[Word<'_>], answers: &mut Answers) -> Answered {
-    let command = read_command(answers.alloc, only_bytes(words)?)?;
+pub fn answer_display(words: &mut Words<'_>, answers: &mut Answers) -> Answered {
+    let command = read_command(answers.alloc, words.bytes()?)?;
     put_clone(command, answers)
 }
 
-/// Writes what Display and Debug write.
-fn put_both<T: Debug + Display>(value: &T, answers: &mut Answers) -> Answered {
-    answers.begin();
-    answers.put_text(format_args!("{value}"), format_args!("{value:#60.3}"));
-    answers.put(" ");
-    answers.put_text(format_args!("{value:?}"), format_args!("{value:#60.3?}"));
+/// The text of a field.
+fn text(alloc: Global, field: &Word<'_>) -> Result<String, CaseError> {
+    Ok(String::from_str(alloc, field.text()?)?)
+}
+
+/// The command of a line, with this value in place of its own.
+fn with_value(alloc: Global, line: &[u8], value: &Word<'_>) -> Result<Command, CaseError> {
+    let of_line = parts(line).ok().ok_or(CaseError::NoCase)?;
+    let value = match of_line.value {
+        Value::Raw(_) => Value::Raw(Sent::Plain(value.bytes()?)),
+        _ => Value::Text(value.text()?),
+    };
+    let made = Command::from_parts(alloc, &Parts { value, ..of_line });
+    made.ok().ok_or(CaseError::NoCase)
+}
+
+/// The command that is written: that of a line; one with a value that no line gives; or LIST with
+/// options, another subcommand of SITE or another verb.
+fn read_written(alloc: Global, words: &[Word<'_>]) -> Result<Command, CaseError> {
+    Ok(match words {
+        [line] => read_command(alloc, line.bytes()?)?,
+        [Word::Bare("List"), options] => Command::List {
+            options: Some(text(alloc, options)?),
+            path: None,
+        },
+        [Word::Bare("Site"), command] => Command::Site {
+            command: text(alloc, command)?,
+            arguments: String::new(alloc),
+        },
+        [Word::Bare("Other"), verb] => Command::Other {
+            command_name: text(alloc, verb)?,
+            arguments: String::new(alloc),
+        },
+        [line, value] => with_value(alloc, line.bytes()?, value)?,
+        _ => return Err(CaseError::NoCase),
+    })
+}
+
+/// `write LINE`, `write LINE VALUE`, or `write VARIANT TEXT`
+pub fn answer_write(words: &mut Words<'_>, answers: &mut Answers) -> Answered {
+    let mut buf = Vec::from_slice(answers.alloc, b"x")?;
+    let command = read_written(answers.alloc, words.rest())?;
+    let written = once_more!(answers, write_command(&command, &mut buf));
+    drop(command);
+    answers.put_appended(written, buf.as_slice())
+}
+
+/// Writes what a new codec reads the line as, and whether it is another command or leaves bytes.
+fn put_read_back(command: &Command, mut line: Vec<u8>, answers: &mut Answers) {
+    answers.put(format_args!("{} is ", Quoted(line.as_slice())));
+    let mut codec = FtpCodec::new();
+    let decoded = once_more!(answers, codec.decode(answers.alloc, &mut line));
+    let is_same = matches!(&decoded, Ok(Some(other)) if *other == *command);
+    if let Ok(Some(other)) = &decoded {
+        answers.put(format_args!("ok {}", Shown(other)));
+    }
+    drop(decoded);
+    answers.put_where(!is_same || !line.is_empty(), " unequal");
+}
+
+/// Writes the command's line, and what that is read as.
+fn put_canonical(command: &Command, answers: &mut Answers) -> Answered {
+    let mut line = Vec::new(answers.alloc);
+    match write_command(command, &mut line) {
+        Ok(()) => put_read_back(command, line, answers),
+        Err(WriteCommandError::NoLine) => answers.put("NoLine"),
+        Err(WriteCommandError::OutOfMemory) => return Err(CaseError::OutOfMemory),
+    }
     Ok(())
 }
 
-/// `password BYTES`
-pub fn answer_password(words: &[Word<'_>], answers: &mut Answers) -> Answered {
-    let password = Password::new(Bytes::copy_from_slice(answers.alloc, only_bytes(words)?)?);
-    answers.begin();
-    let copy = password.clone()?;
-    let is_same = copy == password;
-    drop(password);
-    put_both(&copy, answers)?;
-    answers.put(format_args!(" bytes={}", Quoted(copy.as_ref())));
-    answers.put_where(!is_same, " unequal");
-    Ok(())
+/// `canonical LINE`
+pub fn answer_canonical(words: &mut Words<'_>, answers: &mut Answers) -> Answered {
+    let line = words.bytes()?;
+    match parse(answers.begin(), line) {
+        Ok(command) => {
+            let answered = put_canonical(&command, answers);
+            drop(command);
+            answered
+        }
+        Err(error) => put_refusal(error, answers),
+    }
 }
 
-/// `password_from_text TEXT`
-pub fn answer_password_from_text(words: &[Word<'_>], answers: &mut Answers) -> Answered {
-    let text = only_text(words)?;
-    let password = Password::from_text(answers.begin(), text)?;
-    answers.put(Quoted(password.as_ref()));
-    Ok(())
+/// `forward LINE`
+pub fn answer_forward(words: &mut Words<'_>, answers: &mut Answers) -> Answered {
+    let line = words.bytes()?;
+    let mut buf = Vec::from_slice(answers.alloc, b"x")?;
+    let forwarded = once_more!(answers, forward(line, &mut buf));
+    match (forwarded, buf.as_slice()) {
+        (Err(ForwardError::Refused(error)), [b'x']) => put_refusal(error, answers),
+        (forwarded, buf) => answers.put_appended(forwarded, buf),
+    }
 }
 
 /// `is_verb WORD..`
-pub fn answer_is_verb(words: &[Word<'_>], answers: &mut Answers) -> Answered {
+pub fn answer_is_verb(words: &mut Words<'_>, answers: &mut Answers) -> Answered {
     answers.begin();
     let mut separator = "";
-    for word in words {
+    for word in words.rest() {
         answers.put(format_args!("{separator}{}", is_verb(word.bytes()?)));
         separator = " ";
     }
     Ok(())
 }
 
-/// The variant of this name, of those without a field.
-macro_rules! variant {
-    ($name:expr, $type:ident { $($unit:ident)* }) => {
-        match $name {
-            $(name if name == stringify!($unit) => $type::$unit,)*
-            _ => return Err(CaseError::NoCase),
-        }
-    };
+/// Writes what Display and Debug write.
+fn put_both<T: Debug + Display>(value: &T, answers: &mut Answers) {
+    answers.begin();
+    answers.put_text(format_args!("{value}"), format_args!("{value:#60.3}"));
+    answers.put(" ");
+    answers.put_text(format_args!("{value:?}"), format_args!("{value:#60.3?}"));
 }
 
-/// The parser's kind of this name.
-fn parse_kind(name: &str) -> Result<ParseErrorKind, CaseError> {
-    Ok(variant!(name, ParseErrorKind { InvalidCommand InvalidUtf8 InvalidEol OutOfMemory }))
+/// `password BYTES`
+pub fn answer_password(words: &mut Words<'_>, answers: &mut Answers) -> Answered {
+    let password = Password::new(Bytes::copy_from_slice(answers.alloc, words.bytes()?)?);
+    answers.begin();
+    let copy = password.clone()?;
+    let is_same = copy == password;
+    drop(password);
+    put_both(&copy, answers);
+    answers.put(format_args!(" bytes={}", Quoted(copy.as_ref())));
+    answers.put_where(!is_same, " unequal");
+    Ok(())
 }
 
-/// The control channel's kind of this name; UnknownCommand has the command FOO.
-fn kind(alloc: Global, name: &str) -> Result<ControlChanErrorKind, CaseError> {
-    if name == "UnknownCommand" {
-        let command = String::from_str(alloc, "FOO")?;
-        return Ok(ControlChanErrorKind::UnknownCommand { command });
+/// `password_from_text TEXT`
+pub fn answer_password_from_text(words: &mut Words<'_>, answers: &mut Answers) -> Answered {
+    let text = words.text()?;
+    let password = Password::from_text(answers.begin(), text)?;
+    answers.put(Quoted(password.as_ref()));
+    Ok(())
+}
+
+/// Writes what Display and Debug write of each of these.
+fn put_all<T: Debug + Display>(values: &[T], answers: &mut Answers) -> Answered {
+    let mut separator = "";
+    for value in values {
+        answers.put(separator);
+        put_both(value, answers);
+        separator = " | ";
     }
-    Ok(variant!(name, ControlChanErrorKind {
-        IoError ParseError InternalServerError AuthenticationError InternalMsgError Utf8Error
-        InvalidCommand ControlChannelTimeout IllegalState OutOfMemory LineTooLong
-    }))
+    Ok(())
 }
 
-/// Why no line is forwarded; Refused holds the parser's InvalidCommand.
-fn forward_error(name: &str) -> Result<ForwardError, CaseError> {
-    if name == "Refused" {
-        return Ok(ForwardError::Refused(ParseErrorKind::InvalidCommand.into()));
-    }
-    Ok(variant!(name, ForwardError { NotALine OutOfMemory }))
+/// The errors of a type by their names, of those that have no field; and one that has.
+macro_rules! errors {
+    ($type:ident: $($unit:ident)*) => { [$($type::$unit),*] };
+    ($type:ident: $($unit:ident)*; $other:expr) => { [$($type::$unit,)* $other] };
 }
 
-/// Why no reply is received; Read holds the error 4 of the system.
-fn receive_error(name: &str) -> Result<ReceiveError, CaseError> {
-    if name == "Read" {
-        return Ok(ReceiveError::Read(io::Error::from_raw_os_error(4)));
-    }
-    Ok(variant!(name, ReceiveError { Malformed TooLong OutOfMemory TooManyReads }))
+/// Writes what these write.
+macro_rules! put_errors {
+    ($answers:expr, $($errors:tt)*) => { put_all(&errors!($($errors)*), $answers) };
 }
 
-/// Writes the texts of an error of a call that writes or reads.
-fn put_other(error: &str, name: &str, answers: &mut Answers) -> Answered {
-    match error {
-        "EncodeLinesError" => {
-            put_both(
-                &variant!(name, EncodeLinesError { CodeOutOfRange OutOfMemory }),
-                answers,
-            )
+/// The kinds of the parser.
+const PARSE_KINDS: [ParseErrorKind; 4] =
+    errors!(ParseErrorKind: InvalidCommand InvalidUtf8 InvalidEol OutOfMemory);
+
+/// Those of the control channel; that of an unknown command has FOO.
+fn control_kinds(alloc: Global) -> Result<Vec<ControlChanErrorKind>, CaseError> {
+    let command = String::from_str(alloc, "FOO")?;
+    let kinds = errors!(
+        ControlChanErrorKind: IoError ParseError InternalServerError AuthenticationError
+        InternalMsgError Utf8Error InvalidCommand ControlChannelTimeout IllegalState OutOfMemory
+        LineTooLong; ControlChanErrorKind::UnknownCommand { command }
+    );
+    Ok(Vec::from_array(alloc, kinds)?)
+}
+
+/// `text TYPE`: all errors of this type.
+pub fn answer_text(words: &mut Words<'_>, answers: &mut Answers) -> Answered {
+    let alloc = answers.alloc;
+    match words.name()? {
+        "ParseErrorKind" => put_all(&PARSE_KINDS, answers),
+        "ParseError" => put_all(&PARSE_KINDS.map(ParseError::from), answers),
+        "ControlChanErrorKind" => put_all(control_kinds(alloc)?.as_slice(), answers),
+        "ControlChanError" => {
+            let kinds = control_kinds(alloc)?.into_iter();
+            let errors: Vec<ControlChanError> = kinds.map(ControlChanError::from).collect(alloc)?;
+            put_all(errors.as_slice(), answers)
         }
-        "WriteCommandError" => {
-            put_both(
-                &variant!(name, WriteCommandError { NoLine OutOfMemory }),
-                answers,
-            )
-        }
-        "ForwardError" => put_both(&forward_error(name)?, answers),
-        "SendError" => put_both(
-            &variant!(name, SendError { NoLine NotALine OutOfMemory TooManyCommands }),
-            answers,
+        name => put_other(name, answers),
+    }
+}
+
+/// Those of a type of another call.
+fn put_other(name: &str, answers: &mut Answers) -> Answered {
+    match name {
+        "EncodeLinesError" => put_errors!(answers, EncodeLinesError: CodeOutOfRange OutOfMemory),
+        "WriteCommandError" => put_errors!(answers, WriteCommandError: NoLine OutOfMemory),
+        "ForwardError" => put_errors!(
+            answers, ForwardError: NotALine OutOfMemory;
+            ForwardError::Refused(ParseErrorKind::InvalidCommand.into())
         ),
-        "ReadReplyError" => {
-            put_both(
-                &variant!(name, ReadReplyError { Malformed OutOfMemory }),
-                answers,
-            )
-        }
-        "NextReplyError" => put_both(
-            &variant!(name, NextReplyError { Malformed TooLong OutOfMemory }),
-            answers,
+        "SendError" => put_errors!(
+            answers, SendError: NoLine NotALine OutOfMemory TooManyCommands
         ),
-        "ReceiveError" => put_both(&receive_error(name)?, answers),
+        "ReadReplyError" => put_errors!(answers, ReadReplyError: Malformed OutOfMemory),
+        "NextReplyError" => put_errors!(answers, NextReplyError: Malformed TooLong OutOfMemory),
+        "ReceiveError" => put_errors!(
+            answers, ReceiveError: Malformed TooLong OutOfMemory TooManyReads;
+            ReceiveError::Read(io::Error::from_raw_os_error(4))
+        ),
         _ => Err(CaseError::NoCase),
-    }
-}
-
-/// `text TYPE VARIANT`
-pub fn answer_text(words: &[Word<'_>], answers: &mut Answers) -> Answered {
-    let [error, name] = words else {
-        return Err(CaseError::NoCase);
-    };
-    let name = name.name()?;
-    match error.name()? {
-        "ParseErrorKind" => put_both(&parse_kind(name)?, answers),
-        "ParseError" => put_both(&ParseError::from(parse_kind(name)?), answers),
-        "ControlChanErrorKind" => put_both(&kind(answers.alloc, name)?, answers),
-        "ControlChanError" => put_both(
-            &ControlChanError::from(kind(answers.alloc, name)?),
-            answers,
-        ),
-        error => put_other(error, name, answers),
     }
 }

@@ -4,28 +4,23 @@
 #![tactic(auto)]
 
 mod answers;
-mod commands;
 mod decoding;
-mod events;
 mod handlers;
 mod lines;
 mod reading;
 mod replies;
 mod sessions;
 mod shown;
-mod steps;
-mod streams;
 mod words;
-mod writing;
 
 use answers::{Answered, Answers};
 use std::io::{BufRead, BufReader};
 use std::process::ExitCode;
 use std::{env, io};
-use words::{CaseError, Word, first, read_words};
+use words::{CaseError, Word, Words, read_words};
 
 /// Makes the call of this name.
-fn make_call(name: &str, words: &[Word<'_>], answers: &mut Answers) -> Answered {
+fn make_call(name: &str, words: &mut Words<'_>, answers: &mut Answers) -> Answered {
     match name {
         "parse" => lines::answer_parse(words, answers),
         "display" => lines::answer_display(words, answers),
@@ -33,14 +28,14 @@ fn make_call(name: &str, words: &[Word<'_>], answers: &mut Answers) -> Answered 
         "password_from_text" => lines::answer_password_from_text(words, answers),
         "is_verb" => lines::answer_is_verb(words, answers),
         "text" => lines::answer_text(words, answers),
-        "write" => writing::answer_write(words, answers),
-        "canonical" => writing::answer_canonical(words, answers),
-        "forward" => writing::answer_forward(words, answers),
-        "decode" => decoding::answer_decode(words, answers),
-        "decode_slice" => decoding::answer_decode_slice(words, answers),
-        "events" => events::answer_events(words, false, answers),
-        "event_lines" => events::answer_events(words, true, answers),
-        "log" => events::answer_log(words, answers),
+        "write" => lines::answer_write(words, answers),
+        "canonical" => lines::answer_canonical(words, answers),
+        "forward" => lines::answer_forward(words, answers),
+        "decode" => decoding::answer_decode(false, words, answers),
+        "decode_slice" => decoding::answer_decode(true, words, answers),
+        "events" => decoding::answer_events(false, words, answers),
+        "event_lines" => decoding::answer_events(true, words, answers),
+        "log" => decoding::answer_log(words, answers),
         "encode" => replies::answer_encode(words, answers),
         "lines" => replies::answer_lines(words, answers),
         "says" => replies::answer_says(words, answers),
@@ -48,24 +43,34 @@ fn make_call(name: &str, words: &[Word<'_>], answers: &mut Answers) -> Answered 
         "read" => reading::answer_read(words, answers),
         "receive" => reading::answer_receive(words, answers),
         "client" => reading::answer_client(words, answers),
-        "reply" => commands::answer_reply(words, answers),
-        "epsv" => commands::answer_epsv(words, answers),
-        "quoted_path" => commands::answer_quoted_path(words, answers),
-        "single_line" => commands::answer_single_line(words, answers),
+        "reply" => replies::answer_reply(words, answers),
+        "epsv" => replies::answer_epsv(words, answers),
+        "quoted_path" => replies::answer_quoted_path(words, answers),
+        "single_line" => replies::answer_single_line(words, answers),
         "serve" => sessions::answer_session(true, words, answers),
         "feed" => sessions::answer_session(false, words, answers),
         _ => Err(CaseError::NoCase),
     }
 }
 
+/// Answers the case of these words, all of which it takes.
+fn answer_words(given: &[Word<'_>], answers: &mut Answers) -> Answered {
+    let mut words = Words { all: given, at: 0 };
+    let name = words.name()?;
+    make_call(name, &mut words, answers)?;
+    if words.rest().is_empty() {
+        Ok(())
+    } else {
+        Err(CaseError::NoCase)
+    }
+}
+
 /// Answers the case that a line is, once more where its call ran out of memory.
 fn answer_case(line: &str, answers: &mut Answers) -> Answered {
     let words = read_words(answers.alloc, line)?;
-    let (name, given) = first(words.as_slice())?;
-    let name = name.name()?;
-    let answered = make_call(name, given, answers);
-    if answers.is_again(&answered) {
-        make_call(name, given, answers)
+    let answered = answer_words(words.as_slice(), answers);
+    if answers.is_begun && answers.ran_out(&answered) {
+        answer_words(words.as_slice(), answers)
     } else {
         answered
     }

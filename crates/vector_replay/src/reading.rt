@@ -1,8 +1,8 @@
 //! Calls that read replies, and those of a client.
 use crate::answers::{Answered, Answers, once_more};
+use crate::decoding::{Taker, make_steps};
 use crate::shown::Quoted;
-use crate::steps::{Taker, make_steps};
-use crate::words::{CaseError, Word, limit_and_rest, only_bytes};
+use crate::words::{CaseError, Words};
 use std::alloc::AllocError;
 use unftp_control_client::{Client, To};
 use unftp_control_codecs::line_parser::parse;
@@ -39,12 +39,11 @@ fn put_front(bytes: &[u8], separator: &str, answers: &mut Answers) -> Option<usi
 }
 
 /// `read BYTES`
-pub fn answer_read(words: &[Word<'_>], answers: &mut Answers) -> Answered {
-    let bytes = only_bytes(words)?;
-    let mut rest = bytes;
+pub fn answer_read(words: &mut Words<'_>, answers: &mut Answers) -> Answered {
+    let mut rest = words.bytes()?;
     let mut separator = "";
     // a reply takes bytes, so the last call finds none
-    for _ in 0..=bytes.len() {
+    for _ in 0..=rest.len() {
         let Some(used) = put_front(rest, separator, answers) else {
             break;
         };
@@ -54,14 +53,15 @@ pub fn answer_read(words: &[Word<'_>], answers: &mut Answers) -> Answered {
     Ok(())
 }
 
-/// Writes why no reply is taken, if there is a reason.
-fn put_no_reply(error: Option<NextReplyError>, answers: &mut Answers) {
+/// Writes why no reply is taken, if there is a reason; memory that ran out is none.
+fn put_no_reply(error: Option<NextReplyError>, answers: &mut Answers) -> Result<bool, CaseError> {
     answers.put(match error {
         None => "",
         Some(NextReplyError::Malformed) => "malformed | ",
         Some(NextReplyError::TooLong) => "too-long | ",
-        Some(NextReplyError::OutOfMemory) => "failed | ",
+        Some(NextReplyError::OutOfMemory) => return Err(CaseError::OutOfMemory),
     });
+    Ok(false)
 }
 
 impl Taker for ReplyDecoder {
@@ -69,23 +69,18 @@ impl Taker for ReplyDecoder {
         ReplyDecoder::push(self, piece)
     }
 
-    fn take(&mut self, answers: &mut Answers) -> bool {
-        let taken = once_more!(answers, self.next_reply());
+    fn take(&mut self, answers: &mut Answers) -> Result<bool, CaseError> {
+        let taken = self.next_reply();
         if let Ok(Some(reply)) = &taken {
             put_reply(reply.code, reply.lines.as_slice(), answers);
             answers.put(" | ");
-            return true;
+            return Ok(true);
         }
-        put_no_reply(taken.err(), answers);
-        false
+        put_no_reply(taken.err(), answers)
     }
 
-    fn act(&mut self, step: &str, _bytes: &[u8], _answers: &mut Answers) -> Answered {
-        if step != "clear" {
-            return Err(CaseError::NoCase);
-        }
-        self.clear();
-        Ok(())
+    fn clear(&mut self) {
+        ReplyDecoder::clear(self);
     }
 
     fn put_left(&self, answers: &mut Answers) {
@@ -94,13 +89,12 @@ impl Taker for ReplyDecoder {
 }
 
 /// `receive LIMIT STEP..`
-pub fn answer_receive(words: &[Word<'_>], answers: &mut Answers) -> Answered {
-    let (limit, steps) = limit_and_rest(words)?;
-    let mut decoder = match limit {
-        Some(limit) => ReplyDecoder::with_limit(answers.alloc, limit.bytes),
+pub fn answer_receive(words: &mut Words<'_>, answers: &mut Answers) -> Answered {
+    let mut decoder = match words.limit()? {
+        Some(limit) => ReplyDecoder::with_limit(answers.alloc, limit.get()),
         None => ReplyDecoder::new(answers.alloc),
     };
-    make_steps(&mut decoder, steps, " | ", answers)
+    make_steps(&mut decoder, words.rest(), " | ", answers)
 }
 
 /// A client, and a buffer for the lines that it sends.
@@ -127,11 +121,10 @@ impl Taker for Talk {
         self.client.receive(piece)
     }
 
-    fn take(&mut self, answers: &mut Answers) -> bool {
-        let taken = once_more!(answers, self.client.next_reply());
+    fn take(&mut self, answers: &mut Answers) -> Result<bool, CaseError> {
+        let taken = self.client.next_reply();
         let Ok(Some(taken)) = taken else {
-            put_no_reply(taken.err(), answers);
-            return false;
+            return put_no_reply(taken.err(), answers);
         };
         match taken.to {
             To::Greeting => answers.put("greeting"),
@@ -140,7 +133,7 @@ impl Taker for Talk {
         }
         answers.put(format_args!(" {:03} | ", taken.reply.code));
         drop(taken);
-        true
+        Ok(true)
     }
 
     fn act(&mut self, step: &str, bytes: &[u8], answers: &mut Answers) -> Answered {
@@ -152,21 +145,17 @@ impl Taker for Talk {
         answers.put_where(!is_sent, "not sent | ");
         Ok(())
     }
-
-    /// Only the end says what is owed and left.
-    fn put_left(&self, _answers: &mut Answers) {}
 }
 
 /// `client LIMIT ACT..`: `send` and a line, `command` and the line of one, or a piece that comes.
-pub fn answer_client(words: &[Word<'_>], answers: &mut Answers) -> Answered {
-    let (limit, acts) = limit_and_rest(words)?;
-    let client = match limit {
-        Some(limit) => Client::with_limit(answers.alloc, limit.bytes),
+pub fn answer_client(words: &mut Words<'_>, answers: &mut Answers) -> Answered {
+    let client = match words.limit()? {
+        Some(limit) => Client::with_limit(answers.alloc, limit.get()),
         None => Client::new(answers.alloc),
     };
     let out = Vec::with_capacity(answers.alloc, ROOM)?;
     let mut talk = Talk { client, out };
-    make_steps(&mut talk, acts, "", answers)?;
+    make_steps(&mut talk, words.rest(), "", answers)?;
     let (owed, left) = (talk.client.owed(), talk.client.pending().len());
     answers.put(format_args!("owed={owed} left={left}"));
     answers.put_where(talk.client.tls_agreed(), " tls");

@@ -1,173 +1,132 @@
 //! Sessions: `serve` and `feed` over streams and handlers that may fail.
 use crate::answers::{Answered, Answers};
-use crate::handlers::{Scripted, Wire};
+use crate::handlers::{Pieces, Room, Scripted, Turns, Wire};
 use crate::shown::Quoted;
-use crate::streams::{Pieces, Room, Turns};
-use crate::words::{CaseError, Limit, Word, first};
+use crate::words::{CaseError, Word, Words, read_limit};
 use std::alloc::Global;
-use std::io::{Read, Write};
+use std::fmt::Display;
+use std::num::NonZeroUsize;
 use transferring::Transfers;
-use unftp_control_serve::{
-    Engine, Input, Output, ServeError, Session, Sink, serve, serve_with_limit,
-};
+use unftp_control_serve::{Count, Engine, Input, Output, Session, Sink, serve, serve_with_limit};
 
 /// How many bytes there are for how each call ended.
-const ROOM: usize = 48;
+const ENDS: usize = 48;
 
 /// How many bytes of replies are written before the writer's buffer grows.
-const RESERVED: usize = 1 << 16;
+const ROOM: usize = 1 << 16;
+
+/// The value of an option, if it is there; an empty one where it has no value.
+fn value_of<'b>(options: &[Word<'b>], name: &str) -> Option<&'b str> {
+    for option in options {
+        if let Word::Bare(word) = option {
+            let (found, value) = word.split_once('=').unwrap_or((*word, ""));
+            if found == name {
+                return Some(value);
+            }
+        }
+    }
+    None
+}
 
 /// What a session is made of.
 #[derive(Clone, Copy)]
-struct SessionCase<'a, 'b> {
+struct SessionCase<'a> {
     alloc: Global,
     /// Whether it is served, and not fed.
     is_served: bool,
-    limit: Option<Limit>,
-    is_silent: bool,
-    /// Whether files are transferred.
-    is_transferring: bool,
-    turns: Turns<'b>,
-    reads: Turns<'b>,
-    writes: Turns<'b>,
-    flushes: Turns<'b>,
-    /// Whether it is served once more.
-    is_again: bool,
-    /// Whether replies are appended to a buffer.
-    is_appended: bool,
+    /// The words before its bytes: names, some with `=` and a value.
+    options: &'a [Word<'a>],
+    limit: Option<NonZeroUsize>,
     /// The bytes that are served, or that a buffer holds before replies are appended.
     first: &'a [u8],
     /// The pieces that are fed.
-    pieces: &'a [Word<'b>],
+    pieces: &'a [Word<'a>],
 }
 
-impl<'a, 'b> SessionCase<'a, 'b> {
-    /// The session of these words, and of the bytes that follow them.
+impl<'a> SessionCase<'a> {
+    /// The session of these words.
     fn read(
         alloc: Global,
         is_served: bool,
-        words: &'a [Word<'b>],
-    ) -> Result<SessionCase<'a, 'b>, CaseError> {
-        let bytes_at = words.iter().position(|word| word.bytes().is_ok());
-        let (options, pieces) = words.split_at(bytes_at.unwrap_or(words.len()).min(words.len()));
-        let mut case = SessionCase {
+        words: &mut Words<'a>,
+    ) -> Result<SessionCase<'a>, CaseError> {
+        let all = words.rest();
+        let bytes_at = all.iter().position(|word| word.bytes().is_ok());
+        let (options, given) = all.split_at(bytes_at.unwrap_or(all.len()).min(all.len()));
+        let mut given = Words { all: given, at: 0 };
+        let has_first = is_served || value_of(options, "appended").is_some();
+        Ok(SessionCase {
             alloc,
             is_served,
-            limit: None,
-            is_silent: false,
-            is_transferring: false,
-            turns: Turns("all"),
-            reads: Turns("all"),
-            writes: Turns("all"),
-            flushes: Turns("all"),
-            is_again: false,
-            is_appended: false,
-            first: &[],
-            pieces,
-        };
-        for option in options {
-            case.read_option(option.name()?)?;
-        }
-        if is_served || case.is_appended {
-            let (first, later) = first(pieces)?;
-            case.first = first.bytes()?;
-            case.pieces = later;
-        }
-        if case
-            .pieces
-            .iter()
-            .any(|piece| is_served || piece.bytes().is_err())
-        {
-            return Err(CaseError::NoCase);
-        }
-        Ok(case)
+            options,
+            limit: read_limit(value_of(options, "limit").unwrap_or("none"))?,
+            first: if has_first { given.bytes()? } else { &[] },
+            pieces: given.rest(),
+        })
     }
 
-    /// Reads a word before the bytes; a value follows `=`.
-    fn read_option(&mut self, word: &'b str) -> Answered {
-        let (name, value) = word.split_once('=').unwrap_or((word, ""));
-        match name {
-            "again" => self.is_again = true,
-            "appended" => self.is_appended = true,
-            "silent" => self.is_silent = true,
-            "transfers" => self.is_transferring = true,
-            "limit" => self.limit = Word::Bare(value).limit()?,
-            "turns" => self.turns = Turns(value),
-            "reads" => self.reads = Turns(value),
-            "writes" => self.writes = Turns(value),
-            "flushes" => self.flushes = Turns(value),
-            _ => return Err(CaseError::NoCase),
-        }
-        Ok(())
+    /// Whether this option is there.
+    fn has(&self, name: &str) -> bool {
+        value_of(self.options, name).is_some()
+    }
+
+    /// The turns that an option says.
+    fn turns(&self, name: &str) -> Turns<'a> {
+        Turns(value_of(self.options, name).unwrap_or("all"))
     }
 }
 
-/// Notes how a call ended, for which there is room: its error, how many bytes are left where that
-/// is known, and whether the handler has ended the session.
-fn note(ends: &mut String, error: Option<ServeError>, left: Option<u64>, is_done: bool) {
-    let _ = match &error {
-        Some(error) => write!(ends, "{error:?}"),
-        None => write!(ends, "ok"),
-    };
-    if let Some(left) = left {
-        let _ = write!(ends, " left={left}");
-    }
-    let _ = ends.push_str(if is_done { " done | " } else { " | " });
-}
-
-/// Whether memory ran out in a call that ended so.
-fn is_out_of_memory(ends: &str) -> bool {
-    ends.contains("OutOfMemory")
-}
-
-/// Serves what the reader gives.
-fn serve_once<R: Read, W: Write, H: Session>(
-    case: &SessionCase<'_, '_>,
-    reader: &mut Input<R>,
-    writer: &mut Output<W>,
-    handler: &mut H,
-    ends: &mut String,
-) {
-    let served = match case.limit {
-        None => serve(case.alloc, reader, writer, handler),
-        Some(limit) => serve_with_limit(case.alloc, limit.bytes, reader, writer, handler),
-    };
-    match served {
-        Ok(served) => note(ends, None, Some(served.left), served.done),
-        Err(error) => note(ends, Some(error), None, false),
-    }
+/// Notes how a call ended, for which there is room, and whether the handler has ended the session.
+fn note(ends: &mut String, end: impl Display + Drop, is_done: bool) {
+    let _ = write!(ends, "{end}{} | ", if is_done { " done" } else { "" });
 }
 
 /// Serves what the reader gives, and once more where that is asked for.
 fn serve_all<H: Session>(
-    case: &SessionCase<'_, '_>,
+    case: &SessionCase<'_>,
     reader: &mut Pieces<'_, '_>,
     room: &mut Room<'_>,
     handler: &mut H,
     ends: &mut String,
 ) {
     let (mut reader, mut writer) = (Input::new(reader), Output::new(room));
-    serve_once(case, &mut reader, &mut writer, handler, ends);
-    if case.is_again && !is_out_of_memory(ends.as_str()) {
-        serve_once(case, &mut reader, &mut writer, handler, ends);
+    let calls: u32 = if case.has("again") { 2 } else { 1 };
+    for _ in 0..calls {
+        if ends.contains("OutOfMemory") {
+            break;
+        }
+        let served = match case.limit {
+            None => serve(case.alloc, &mut reader, &mut writer, handler),
+            Some(limit) => {
+                serve_with_limit(case.alloc, limit.get(), &mut reader, &mut writer, handler)
+            }
+        };
+        match served {
+            Ok(served) => note(ends, format_args!("ok left={}", served.left), served.done),
+            Err(error) => note(ends, format_args!("{error:?}"), false),
+        }
     }
 }
 
 /// Feeds the pieces to an engine.
 fn feed<H: Session, K: Sink>(
-    case: &SessionCase<'_, '_>,
+    case: &SessionCase<'_>,
     sink: &mut K,
     handler: &mut H,
     ends: &mut String,
 ) {
     let mut engine = match case.limit {
         None => Engine::new(case.alloc),
-        Some(limit) => Engine::with_limit(case.alloc, limit.bytes),
+        Some(limit) => Engine::with_limit(case.alloc, limit.get()),
     };
     for piece in case.pieces {
         if let Word::Bytes(piece) = piece {
-            let error = engine.feed(piece.as_slice(), handler, sink).err();
-            note(ends, error, Some(engine.left()), engine.finished());
+            let fed = engine.feed(piece.as_slice(), handler, sink);
+            let (left, is_done) = (engine.left(), engine.finished());
+            match fed {
+                Ok(()) => note(ends, format_args!("ok left={left}"), is_done),
+                Err(error) => note(ends, format_args!("{error:?} left={left}"), is_done),
+            }
         }
     }
     drop(engine);
@@ -175,27 +134,30 @@ fn feed<H: Session, K: Sink>(
 
 /// Writes how the session goes by this handler. One that ran out of memory is marked.
 fn put_session<H: Session>(
-    case: &SessionCase<'_, '_>,
+    case: &SessionCase<'_>,
     handler: &mut H,
     answers: &mut Answers,
 ) -> Answered {
     let (alloc, calls) = (case.alloc, case.pieces.len().saturating_add(8));
-    let mut ends = String::with_capacity(alloc, ROOM.saturating_mul(calls))?;
-    let reserved = if case.is_appended {
-        case.first.len()
-    } else {
-        RESERVED
+    let mut ends = String::with_capacity(alloc, ENDS.saturating_mul(calls))?;
+    let is_appended = case.has("appended");
+    let reserved = if is_appended { case.first.len() } else { ROOM };
+    let mut room = Room {
+        held: Vec::with_capacity(alloc, reserved)?,
+        flushed: 0,
+        writes: case.turns("writes"),
+        flushes: case.turns("flushes"),
     };
-    let mut room = Room::new(
-        Vec::with_capacity(alloc, reserved)?,
-        case.writes,
-        case.flushes,
-    );
-    let mut reader = Pieces::new(case.first, usize::MAX, case.reads);
+    let mut reader = Pieces {
+        rest: case.first,
+        reads: 0,
+        step: usize::MAX,
+        turns: case.turns("reads"),
+    };
     answers.begin();
     if case.is_served {
         serve_all(case, &mut reader, &mut room, handler, &mut ends);
-    } else if case.is_appended {
+    } else if is_appended {
         // there is room for them
         let _ = room.held.extend_from_slice(case.first);
         feed(case, &mut room.held, handler, &mut ends);
@@ -203,7 +165,7 @@ fn put_session<H: Session>(
         feed(case, &mut Output::new(&mut room), handler, &mut ends);
     }
     let written = Quoted(room.held.as_slice());
-    if is_out_of_memory(ends.as_str()) {
+    if ends.contains("OutOfMemory") {
         answers.mark(format_args!("{ends}written={written}\n"));
         return Err(CaseError::OutOfMemory);
     }
@@ -216,16 +178,22 @@ fn put_session<H: Session>(
 }
 
 /// `serve WORD.. INPUT`, or `feed WORD.. PIECE..`
-pub fn answer_session(is_served: bool, words: &[Word<'_>], answers: &mut Answers) -> Answered {
+pub fn answer_session(is_served: bool, words: &mut Words<'_>, answers: &mut Answers) -> Answered {
     let case = SessionCase::read(answers.alloc, is_served, words)?;
-    if case.is_transferring {
-        let wire = Wire::new(case.alloc, case.turns)?;
+    if case.has("transfers") {
+        let wire = Wire::new(case.alloc, case.turns("turns"))?;
         let mut transfers = Transfers::new(wire, Vec::new(case.alloc));
         put_session(&case, &mut transfers, answers)?;
-        let (sent, file) = (transfers.connection().sent(), transfers.file());
-        answers.put(format_args!(" sent={} file={}", Quoted(sent), Quoted(file)));
+        let sent = Quoted(transfers.connection().taken.as_slice());
+        answers.put(format_args!(" sent={sent} file={}", Quoted(transfers.file())));
     } else {
-        let mut scripted = Scripted::new(case.is_silent, case.turns);
+        let mut scripted = Scripted {
+            is_silent: case.has("silent"),
+            turns: case.turns("turns"),
+            taken: 0,
+            has_quit: false,
+            failures: Count::new(),
+        };
         put_session(&case, &mut scripted, answers)?;
         answers.put(format_args!(" taken={}", scripted.taken));
     }

@@ -1,7 +1,7 @@
 //! Commands as the vector files write them.
 use std::fmt;
 use std::fmt::{Debug, Display, Formatter, Write};
-use unftp_control_message::parts::{Choice, Value, Verb};
+use unftp_control_message::parts::{Choice, Parts, Value, Verb};
 use unftp_control_message::{Command, Opt};
 
 /// Bytes between double quotes, in ASCII: what is printable as it is, and all else escaped.
@@ -30,7 +30,7 @@ fn write_escaped<W: Write>(f: &mut Formatter<W>, byte: u8) -> fmt::Result {
     }
 }
 
-/// The variant and the name of its one field; empty where it has none, or two.
+/// The variant and the name of the field with its value; empty where it has none.
 fn heading(verb: Verb) -> &'static str {
     match verb {
         Verb::User => "User username",
@@ -43,6 +43,7 @@ fn heading(verb: Verb) -> &'static str {
         Verb::Retr => "Retr path",
         Verb::Stor => "Stor path",
         Verb::Appe => "Appe path",
+        Verb::List => "List options=None path",
         Verb::Nlst => "Nlst path",
         Verb::Mlst => "Mlst path",
         Verb::Mlsd => "Mlsd path",
@@ -59,15 +60,9 @@ fn heading(verb: Verb) -> &'static str {
         Verb::Rest => "Rest offset",
         Verb::Mdtm => "Mdtm file",
         Verb::Md5 => "Md5 file",
+        Verb::Site => "Site command",
+        Verb::Other => "Other command_name",
         _ => "",
-    }
-}
-
-/// The field of a command without a value: empty bytes, or none.
-fn write_absent<W: Write>(f: &mut Formatter<W>, verb: Verb) -> fmt::Result {
-    match verb {
-        Verb::User | Verb::Pass | Verb::Acct => f.write_str("\"\""),
-        _ => f.write_str("None"),
     }
 }
 
@@ -83,16 +78,17 @@ fn write_choice<W: Write>(f: &mut Formatter<W>, choice: Choice) -> fmt::Result {
     }
 }
 
-/// A text that may be missing.
-#[derive(Clone, Copy)]
-struct Optional<'a>(&'a Option<String>);
-
-impl Display for Optional<'_> {
-    fn fmt<W: Write>(&self, f: &mut Formatter<W>) -> fmt::Result {
-        match self.0 {
-            Some(text) => Display::fmt(&Quoted(text.as_bytes()), f),
-            None => f.write_str("None"),
-        }
+/// A value: one that isn't there is empty bytes of some verbs, and none of others.
+fn write_value<W: Write>(f: &mut Formatter<W>, verb: Verb, value: Value<'_>) -> fmt::Result {
+    match value {
+        Value::None => f.write_str(match verb {
+            Verb::User | Verb::Pass | Verb::Acct | Verb::Site | Verb::Other => "\"\"",
+            _ => "None",
+        }),
+        Value::Raw(sent) | Value::Lossy(sent) => Display::fmt(&Quoted(sent.sent()), f),
+        Value::Text(text) => Display::fmt(&Quoted(text.as_bytes()), f),
+        Value::Chosen(choice) => write_choice(f, choice),
+        Value::Number(number) => Display::fmt(&number, f),
     }
 }
 
@@ -100,51 +96,25 @@ impl Display for Optional<'_> {
 #[derive(Clone, Copy)]
 pub struct Shown<'a>(pub &'a Command);
 
-impl Shown<'_> {
-    /// A command with at most one field.
-    fn write_field<W: Write>(self, f: &mut Formatter<W>) -> fmt::Result {
-        let parts = self.0.parts();
-        let heading = heading(parts.verb);
-        if heading.is_empty() {
+impl Display for Shown<'_> {
+    fn fmt<W: Write>(&self, f: &mut Formatter<W>) -> fmt::Result {
+        let Parts { verb, name, value } = self.0.parts();
+        let heading = heading(verb);
+        // options are never read, and would show so
+        let has_options = matches!(
+            self.0,
+            Command::List {
+                options: Some(_),
+                ..
+            }
+        );
+        if heading.is_empty() || has_options {
             return Debug::fmt(self.0, f);
         }
         write!(f, "{heading}=")?;
-        match parts.value {
-            Value::None => write_absent(f, parts.verb),
-            Value::Raw(sent) | Value::Lossy(sent) => Display::fmt(&Quoted(sent.sent()), f),
-            Value::Text(text) => Display::fmt(&Quoted(text.as_bytes()), f),
-            Value::Chosen(choice) => write_choice(f, choice),
-            Value::Number(number) => Display::fmt(&number, f),
+        if let Verb::Site | Verb::Other = verb {
+            write!(f, "{} arguments=", Quoted(name.as_bytes()))?;
         }
-    }
-}
-
-impl Display for Shown<'_> {
-    fn fmt<W: Write>(&self, f: &mut Formatter<W>) -> fmt::Result {
-        match self.0 {
-            Command::List { options, path } => {
-                write!(
-                    f,
-                    "List options={} path={}",
-                    Optional(options),
-                    Optional(path)
-                )
-            }
-            Command::Site { command, arguments } => {
-                let (name, text) = (Quoted(command.as_bytes()), Quoted(arguments.as_bytes()));
-                write!(f, "Site command={name} arguments={text}")
-            }
-            Command::Other {
-                command_name,
-                arguments,
-            } => {
-                let (name, text) = (
-                    Quoted(command_name.as_bytes()),
-                    Quoted(arguments.as_bytes()),
-                );
-                write!(f, "Other command_name={name} arguments={text}")
-            }
-            _ => self.write_field(f),
-        }
+        write_value(f, verb, value)
     }
 }

@@ -1,14 +1,13 @@
 //! The words of a case.
-ghost use Rattle.std.specs.Prelude.{◌≤◌};
-
 use bstr::ByteVec;
 use std::alloc::{AllocError, AllocFailed, Global};
+use std::num::NonZeroUsize;
 use std::str;
 use std::str::FromStr;
 use unftp_control_message::reply::error::ControlChanError;
 
 /// Why a line is not answered as a case.
-#[derive(Clone, Copy)]
+#[derive(Clone, Copy, Debug)]
 pub enum CaseError {
     /// It is no case.
     NoCase,
@@ -35,13 +34,6 @@ impl From<ControlChanError> for CaseError {
     }
 }
 
-/// How many bytes something may have: at least 1.
-#[derive(Clone, Copy)]
-pub struct Limit {
-    pub bytes: usize,
-    ghost at_least_1: { 1 ≤ bytes },
-}
-
 /// A word, or the bytes that it has between quotes.
 #[derive(Drop)]
 pub enum Word<'a> {
@@ -58,14 +50,6 @@ impl<'a> Word<'a> {
         Ok(Word::Bytes(Vec::unescape_bytes(alloc, quoted)?))
     }
 
-    /// The word, where it has no quotes.
-    pub fn name(&self) -> Result<&'a str, CaseError> {
-        match self {
-            Word::Bare(word) => Ok(*word),
-            Word::Bytes(_) => Err(CaseError::NoCase),
-        }
-    }
-
     /// What it has between quotes.
     pub fn bytes(&self) -> Result<&[u8], CaseError> {
         match self {
@@ -78,69 +62,67 @@ impl<'a> Word<'a> {
     pub fn text(&self) -> Result<&str, CaseError> {
         str::from_utf8(self.bytes()?).ok().ok_or(CaseError::NoCase)
     }
+}
 
-    /// The number that it is.
-    pub fn number<T: FromStr + Drop>(&self) -> Result<T, CaseError>
+/// The words of a case, and how many of them are read.
+#[derive(Drop)]
+pub struct Words<'a> {
+    pub all: &'a [Word<'a>],
+    pub at: usize,
+}
+
+impl<'a> Words<'a> {
+    /// The next word.
+    fn next(&mut self) -> Result<&'a Word<'a>, CaseError> {
+        let word = self.all.get(self.at).ok_or(CaseError::NoCase)?;
+        self.at = self.at.saturating_add(1);
+        Ok(word)
+    }
+
+    /// The next word, without quotes.
+    pub fn name(&mut self) -> Result<&'a str, CaseError> {
+        match self.next()? {
+            Word::Bare(word) => Ok(*word),
+            Word::Bytes(_) => Err(CaseError::NoCase),
+        }
+    }
+
+    /// What the next word has between quotes.
+    pub fn bytes(&mut self) -> Result<&'a [u8], CaseError> {
+        self.next()?.bytes()
+    }
+
+    /// The text that the next word has between quotes.
+    pub fn text(&mut self) -> Result<&'a str, CaseError> {
+        self.next()?.text()
+    }
+
+    /// The number that the next word is.
+    pub fn number<T: FromStr + Drop>(&mut self) -> Result<T, CaseError>
     where
         T::Err: Drop,
     {
         self.name()?.parse::<T>().ok().ok_or(CaseError::NoCase)
     }
 
-    /// A limit, or `none`.
-    pub fn limit(&self) -> Result<Option<Limit>, CaseError> {
-        if let Word::Bare("none") = self {
-            return Ok(None);
-        }
-        match self.number()? {
-            0 => Err(CaseError::NoCase),
-            bytes => Ok(Some(Limit { bytes })),
-        }
+    /// All that follow.
+    pub fn rest(&mut self) -> &'a [Word<'a>] {
+        let at = self.at.min(self.all.len());
+        self.at = self.all.len();
+        self.all.split_at(at).1
+    }
+
+    /// The limit that the next word is.
+    pub fn limit(&mut self) -> Result<Option<NonZeroUsize>, CaseError> {
+        read_limit(self.name()?)
     }
 }
 
-/// The bytes that the only word of these has between quotes.
-pub fn only_bytes<'a>(words: &'a [Word<'_>]) -> Result<&'a [u8], CaseError> {
-    match words {
-        [word] => word.bytes(),
-        _ => Err(CaseError::NoCase),
-    }
-}
-
-/// The text that the only word of these has between quotes.
-pub fn only_text<'a>(words: &'a [Word<'_>]) -> Result<&'a str, CaseError> {
-    match words {
-        [word] => word.text(),
-        _ => Err(CaseError::NoCase),
-    }
-}
-
-/// The number that the only word of these is.
-pub fn only_number<T: FromStr + Drop>(words: &[Word<'_>]) -> Result<T, CaseError>
-where
-    T::Err: Drop,
-{
-    match words {
-        [word] => word.number(),
-        _ => Err(CaseError::NoCase),
-    }
-}
-
-/// The limit that the first of these words is, and the words after it.
-pub fn limit_and_rest<'a, 'b>(
-    words: &'a [Word<'b>],
-) -> Result<(Option<Limit>, &'a [Word<'b>]), CaseError> {
-    match words {
-        [limit, rest @ ..] => Ok((limit.limit()?, rest)),
-        [] => Err(CaseError::NoCase),
-    }
-}
-
-/// The first of these words, and those after it.
-pub fn first<'a, 'b>(words: &'a [Word<'b>]) -> Result<(&'a Word<'b>, &'a [Word<'b>]), CaseError> {
-    match words {
-        [first, later @ ..] => Ok((first, later)),
-        [] => Err(CaseError::NoCase),
+/// How many bytes something may have at most: at least 1, or `none`.
+pub fn read_limit(word: &str) -> Result<Option<NonZeroUsize>, CaseError> {
+    match word {
+        "none" => Ok(None),
+        _ => Ok(Some(word.parse().ok().ok_or(CaseError::NoCase)?)),
     }
 }
 
@@ -151,13 +133,4 @@ pub fn read_words(alloc: Global, line: &str) -> Result<Vec<Word<'_>>, CaseError>
         words.push(Word::read(alloc, word)?)?;
     }
     Ok(words)
-}
-
-/// The texts that these words have between quotes.
-pub fn read_texts<'a>(alloc: Global, words: &'a [Word<'_>]) -> Result<Vec<&'a str>, CaseError> {
-    let mut texts = Vec::new(alloc);
-    for word in words {
-        texts.push(word.text()?)?;
-    }
-    Ok(texts)
 }
