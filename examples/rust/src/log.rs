@@ -2,6 +2,7 @@
 //! for who reads the log. Lines that find no room, or can't be written, are dropped and counted.
 use std::io::{self, ErrorKind, Write};
 use std::mem;
+use std::str::FromStr;
 use std::sync::{Arc, Condvar, Mutex, MutexGuard, PoisonError};
 use std::thread;
 use std::time::Duration;
@@ -18,17 +19,44 @@ const PATIENCE: Duration = Duration::from_secs(1);
 const TIME: &[FormatItem] =
     format_description!("[year]-[month]-[day]T[hour]:[minute]:[second].[subsecond digits:6]Z");
 
+/// How lines are written.
+#[derive(Clone, Copy, Debug, Default, PartialEq, Eq)]
+pub enum Format {
+    /// As text.
+    #[default]
+    Text,
+    /// Each as an object of JSON.
+    Json,
+}
+
+impl FromStr for Format {
+    type Err = &'static str;
+
+    fn from_str(name: &str) -> Result<Format, &'static str> {
+        match name {
+            "text" => Ok(Format::Text),
+            "json" => Ok(Format::Json),
+            _ => Err("text or json"),
+        }
+    }
+}
+
 /// Logs events of this level, and more severe ones, until what it returns is dropped.
 ///
 /// # Errors
 ///
 /// Where no thread can be made.
-pub fn start(level: LevelFilter) -> io::Result<LogEnd> {
+pub fn start(level: LevelFilter, format: Format) -> io::Result<LogEnd> {
     let log = Arc::new(Log::default());
     let writing = log.clone();
-    thread::Builder::new().name("log".to_string()).spawn(move || writing.write_to(io::stderr()))?;
+    let write = move || writing.write_to(io::stderr(), format);
+    thread::Builder::new().name("log".to_string()).spawn(write)?;
     let subscriber = tracing_subscriber::fmt().with_max_level(level).with_writer(log.clone());
-    subscriber.with_ansi(false).with_target(false).init();
+    let subscriber = subscriber.with_ansi(false).with_target(false);
+    match format {
+        Format::Text => subscriber.init(),
+        Format::Json => subscriber.json().with_span_list(false).init(),
+    }
     Ok(LogEnd(log))
 }
 
@@ -75,8 +103,8 @@ impl Log {
     }
 
     /// Writes lines as they come, up to the end of the log.
-    fn write_to(&self, output: impl Write) {
-        let mut output = Output { to: output, dropped: 0, is_cut: false };
+    fn write_to(&self, output: impl Write, format: Format) {
+        let mut output = Output { to: output, format, dropped: 0, is_cut: false };
         while let Some((lines, dropped)) = self.next() {
             output.write(&lines, dropped);
         }
@@ -119,6 +147,7 @@ impl Write for &Log {
 /// Where the log goes.
 struct Output<W> {
     to: W,
+    format: Format,
     /// How many lines are missing, since it was last written how many.
     dropped: usize,
     /// Whether it ends in the midst of a line.
@@ -130,8 +159,7 @@ impl<W: Write> Output<W> {
     fn write(&mut self, lines: &[u8], dropped: usize) {
         self.dropped += self.write_lines(lines) + dropped;
         if self.dropped > 0 {
-            let time = OffsetDateTime::now_utc().format(TIME).unwrap_or_default();
-            let notice = format!("{time}  WARN log lines were dropped count={}\n", self.dropped);
+            let notice = notice(self.format, self.dropped);
             if self.write_lines(notice.as_bytes()) == 0 {
                 self.dropped = 0;
             }
@@ -159,6 +187,19 @@ impl<W: Write> Output<W> {
             }
         }
         bytes.len() - left.len()
+    }
+}
+
+/// The line that says how many are missing.
+fn notice(format: Format, count: usize) -> String {
+    let time = OffsetDateTime::now_utc().format(TIME).unwrap_or_default();
+    let message = "log lines were dropped";
+    match format {
+        Format::Text => format!("{time}  WARN {message} count={count}\n"),
+        Format::Json => format!(
+            "{{\"timestamp\":\"{time}\",\"level\":\"WARN\",\
+             \"fields\":{{\"message\":\"{message}\",\"count\":{count}}}}}\n"
+        ),
     }
 }
 
@@ -200,7 +241,7 @@ mod tests {
             let _ = (&log).write_all(line);
         }
         log.waiting().is_ending = true;
-        log.write_to(&mut written);
+        log.write_to(&mut written, Format::Text);
         written
     }
 
@@ -218,7 +259,7 @@ mod tests {
     #[test]
     fn what_cannot_be_written_is_counted_once_there_is_room() {
         let disk = Disk { written: Vec::new(), room: 6 };
-        let mut output = Output { to: disk, dropped: 0, is_cut: false };
+        let mut output = Output { to: disk, format: Format::Text, dropped: 0, is_cut: false };
         output.write(b"one\ntwo\nthree\n", 4);
         output.write(b"four\n", 0);
         assert_eq!(output.to.written, b"one\ntw");

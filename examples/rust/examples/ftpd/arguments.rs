@@ -7,6 +7,7 @@ use std::path::PathBuf;
 use std::time::Duration;
 use tracing::level_filters::LevelFilter;
 use unftp_control_examples::listening::Limits;
+use unftp_control_examples::log::Format;
 
 /// Those of RFC 6335, section 6.
 const DYNAMIC_PORTS: RangeInclusive<u16> = 49152..=65535;
@@ -55,6 +56,8 @@ pub struct Settings {
     pub stall: Duration,
     /// What is logged.
     pub log: LevelFilter,
+    /// How it is written.
+    pub log_format: Format,
 }
 
 /// Reads the command line. Where it is wrong or asks for help, it prints that and ends the program.
@@ -81,6 +84,7 @@ pub fn task() -> Task {
         idle: seconds("idle"),
         stall: seconds("stall"),
         log: matches.get_one("log").copied().unwrap_or(LevelFilter::INFO),
+        log_format: matches.get_one("log-format").copied().unwrap_or_default(),
     }))
 }
 
@@ -115,7 +119,7 @@ fn flag(name: &'static str, help: &'static str) -> Arg {
     Arg::new(name).long(name).action(ArgAction::SetTrue).help(help)
 }
 
-fn listening() -> [Arg; 4] {
+fn listening() -> [Arg; 5] {
     [
         option("listen", "ADDRESS:PORT", "Where it listens; port 0 lets the system pick")
             .value_parser(value_parser!(SocketAddr))
@@ -129,6 +133,9 @@ fn listening() -> [Arg; 4] {
         option("log", "LEVEL", "error, warn, info, or debug, which shows each line")
             .value_parser(value_parser!(LevelFilter))
             .default_value("info"),
+        option("log-format", "FORMAT", "text, or json: an object a line")
+            .value_parser(value_parser!(Format))
+            .default_value("text"),
     ]
 }
 

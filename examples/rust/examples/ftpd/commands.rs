@@ -2,6 +2,7 @@
 use crate::data::DataPort;
 use crate::line::{listed, named};
 use crate::listing::{Fact, Form};
+use crate::record;
 use crate::replies;
 use crate::session::Session;
 use crate::transfer::{Representation, Work};
@@ -85,15 +86,19 @@ impl Session {
                 return Some(Answer::Reply(refusal));
             }
         }
-        let rights = match self.login.event(&line.event) {
+        let (name, rights) = match self.login.event(&line.event) {
             LoginStep::PassOn => return None,
             LoginStep::Answer(reply) => return Some(Answer::Reply(reply)),
             LoginStep::AskAccounts { name, password } => {
-                self.server.users.rights(name, password.as_bytes()).await
+                (name.to_vec(), self.server.users.rights(name, password.as_bytes()).await)
             }
         };
         let reply = self.login.answer(rights.is_some());
-        let Some(rights) = rights else { return Some(Answer::WrongPassword(reply)) };
+        let Some(rights) = rights else {
+            record::failed_login(&name);
+            return Some(Answer::WrongPassword(reply));
+        };
+        record::login(&name);
         self.begin(rights);
         Some(Answer::Reply(reply))
     }

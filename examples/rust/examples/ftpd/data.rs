@@ -4,6 +4,7 @@ use rustix::io::ioctl_fionread;
 use std::io::{self, ErrorKind, Read, Write};
 use std::net::{self, IpAddr, Shutdown, SocketAddr};
 use std::ops::RangeInclusive;
+use std::sync::atomic::{AtomicBool, Ordering};
 use std::sync::Arc;
 use std::time::Duration;
 use tokio::net::TcpStream;
@@ -93,22 +94,28 @@ pub fn listen(ends: Ends, ports: &RangeInclusive<u16>) -> io::Result<(net::TcpLi
 pub struct DataStream {
     tcp: Arc<net::TcpStream>,
     tls: Option<ServerConnection>,
+    /// Whether the server has ended it, so that its end is not the client's.
+    is_hung_up: Arc<AtomicBool>,
 }
 
 /// Ends a data connection when it is dropped, also where a call waits for that.
-pub struct HangUp(Arc<net::TcpStream>);
+pub struct HangUp {
+    tcp: Arc<net::TcpStream>,
+    is_hung_up: Arc<AtomicBool>,
+}
 
 impl Drop for HangUp {
     fn drop(&mut self) {
+        self.is_hung_up.store(true, Ordering::SeqCst);
         // where the client was first, it is no more connected
-        let _ = self.0.shutdown(Shutdown::Both);
+        let _ = self.tcp.shutdown(Shutdown::Both);
     }
 }
 
 impl DataStream {
     /// In clear text.
     pub fn clear(tcp: net::TcpStream) -> DataStream {
-        DataStream { tcp: Arc::new(tcp), tls: None }
+        DataStream { tcp: Arc::new(tcp), tls: None, is_hung_up: Arc::default() }
     }
 
     /// Under TLS, which begins within a time.
@@ -119,7 +126,8 @@ impl DataStream {
     ) -> io::Result<DataStream> {
         let accepting = acceptor.accept(TcpStream::from_std(tcp)?);
         let (tcp, tls) = timeout(patience, accepting).await??.into_inner();
-        Ok(DataStream { tcp: Arc::new(tcp.into_std()?), tls: Some(tls) })
+        let tcp = Arc::new(tcp.into_std()?);
+        Ok(DataStream { tcp, tls: Some(tls), is_hung_up: Arc::default() })
     }
 
     /// Lets each call wait, for so long at most.
@@ -131,7 +139,7 @@ impl DataStream {
 
     /// What ends it.
     pub fn hang_up(&self) -> HangUp {
-        HangUp(self.tcp.clone())
+        HangUp { tcp: self.tcp.clone(), is_hung_up: self.is_hung_up.clone() }
     }
 
     /// Whether it is under TLS.
@@ -170,10 +178,16 @@ impl DataStream {
 }
 
 impl Read for DataStream {
-    /// Under TLS, an end without `close_notify` is one that somebody else may have made, so that a
-    /// file may not be whole: it is an error.
+    /// An end that the server has made is an error. Under TLS, so is one without `close_notify`, that
+    /// somebody else may have made: a file may not be whole.
     fn read(&mut self, part: &mut [u8]) -> io::Result<usize> {
-        let Some(tls) = &mut self.tls else { return (&*self.tcp).read(part) };
+        let Some(tls) = &mut self.tls else {
+            let count = (&*self.tcp).read(part)?;
+            if count == 0 && self.is_hung_up.load(Ordering::SeqCst) {
+                return Err(ErrorKind::ConnectionAborted.into());
+            }
+            return Ok(count);
+        };
         let count = rustls::Stream::new(tls, &mut &*self.tcp).read(part)?;
         let state = tls.process_new_packets();
         if count == 0 && !state.is_ok_and(|state| state.peer_has_closed()) {

@@ -6,9 +6,10 @@
 //! ftpd --users users --certificate certificate.pem --key key.pem FOLDER
 //! ```
 //!
-//! What each file shows: `control` lines and replies, `session` a transfer beside them, `commands`,
-//! `ports` and `files` the answers, `transfer` and `data` data connections, most of which have a
-//! thread while they are open, `folder` paths that the kernel keeps in the folder.
+//! What each file shows: `control` lines and replies, `session` and `transferring` a transfer beside
+//! them, `commands`, `ports` and `files` the answers, `record` the log, `transfer` and `data` data
+//! connections, most of which have a thread while they are open, `folder` paths that the kernel keeps
+//! in the folder.
 //!
 //! lftp sends an address as the name of the server, which RFC 6066 forbids and rustls 0.20 refuses:
 //! `set ssl:use-sni no` there, or name the server.
@@ -21,10 +22,12 @@ mod folder;
 mod line;
 mod listing;
 mod ports;
+mod record;
 mod replies;
 mod server;
 mod session;
 mod transfer;
+mod transferring;
 mod users;
 
 use arguments::{Settings, Task};
@@ -82,7 +85,7 @@ fn print(line: &str) -> io::Result<()> {
 
 /// Starts what serves the folder.
 fn start(settings: Settings) -> io::Result<()> {
-    let _end = log::start(settings.log)?;
+    let _end = log::start(settings.log, settings.log_format)?;
     // All sessions wait in one thread, which spares them a hand-over from one to another. What takes
     // long has a thread of its own: a transfer or a hash, of which each session may have one, and
     // what SIGHUP asks for.

@@ -4,19 +4,17 @@ use crate::control::Control;
 use crate::data::{DataPort, Ends};
 use crate::folder::FilePath;
 use crate::listing::Fact;
+use crate::record::{self, Action, Outcome};
 use crate::server::Server;
-use crate::transfer::{Fault, Representation, Transfer, Work};
+use crate::transfer::Representation;
 use crate::users::Rights;
-use crate::GRACE;
 use std::io;
-use std::mem;
-use std::pin::pin;
-use std::sync::atomic::{AtomicU64, Ordering};
 use std::sync::Arc;
 use std::time::Duration;
-use tokio::time::{sleep, sleep_until, timeout_at, Instant};
-use tracing::{field, info_span, Instrument, Level, Span};
-use unftp_control::{CodecError, Command, Event, Login, OwnedLine, Reply, ReplyCode as Code};
+use tokio::time::{sleep, timeout_at, Instant};
+use tracing::{info_span, Instrument, Level};
+use unftp_control::{CodecError, Login, OwnedLine, Reply, ReplyCode as Code};
+use unftp_control_examples::address::unmapped;
 use unftp_control_examples::listening::{Connected, Stop};
 use unftp_control_examples::stream::Stream;
 
@@ -60,13 +58,14 @@ pub struct Session {
     /// The facts of MLSD and MLST.
     pub facts: Vec<Fact>,
     wrong_passwords: u32,
-    stop: Stop,
+    /// When the program is to end.
+    pub stop: Stop,
     /// The end of the time for the login.
     deadline: Instant,
 }
 
 /// Why a session ends.
-enum End {
+pub enum End {
     /// The client has quit, or its connection is lost.
     Closed,
     /// By the server, with a 421 of this text.
@@ -90,7 +89,7 @@ impl From<io::Error> for End {
 /// Serves a client that has connected.
 pub async fn serve(server: Arc<Server>, connected: Connected) {
     let peer = connected.peer;
-    let span = info_span!("session", %peer, user = field::Empty);
+    let span = info_span!("session", address = %unmapped(peer.ip()), port = peer.port());
     let served = async {
         if let Err(error) = talk(server, connected).await {
             tracing::debug!(%error, "no session");
@@ -122,7 +121,11 @@ async fn talk(server: Arc<Server>, connected: Connected) -> io::Result<()> {
             }
         };
         if let (None, Some(tls)) = (&end, &session.server.tls) {
-            control = control.accept_tls(&tls.control).await?;
+            let turned = control.accept_tls(&tls.control).await;
+            control = turned.map_err(|error| {
+                record::failed_handshake(&error);
+                error
+            })?;
             session.is_tls = true;
         }
     }
@@ -166,11 +169,18 @@ impl Session {
         loop {
             let line = self.line(control).await?;
             log(&line);
+            let action = Action::of(&line, self);
             match self.answer(&line).await {
-                Answer::Reply(reply) => control.reply(reply)?,
+                Answer::Reply(reply) => {
+                    if let Some(action) = action {
+                        action.log(self, 0, &Outcome::of(&reply, None));
+                    }
+                    control.reply(reply)?;
+                }
                 Answer::Transfer(opening, work) => {
                     control.reply(opening)?;
-                    self.transfer(control, work).await?;
+                    let action = action.map(|it| it.at(work.path()));
+                    self.transfer(control, work, action).await?;
                 }
                 Answer::WrongPassword(reply) => {
                     self.wrong_passwords += 1;
@@ -212,107 +222,22 @@ impl Session {
         Ok(line)
     }
 
-    /// Transfers, and sends the reply. A client that aborts or is lost ends it. Other lines wait.
-    async fn transfer(&mut self, control: &mut Control, work: Work) -> Result<(), End> {
-        control.flush().await?;
-        let count = Arc::new(AtomicU64::new(0));
-        let transfer = self.next_transfer(count.clone());
-        let mut running = pin!(transfer.run(work));
-        let mut stopping = pin!(stopping(self.stop.clone()));
-        loop {
-            tokio::select! {
-                done = &mut running => {
-                    control.reply(outcome(&done))?;
-                    control.flush().await?;
-                    log_transfer(&done, count.load(Ordering::Relaxed));
-                    return Ok(());
-                }
-                line = control.line_in_transfer(), if control.may_wait() => {
-                    let line = line?;
-                    match line.event {
-                        Event::Command(Command::Abor) => {
-                            control.reply(Reply::new(Code::CONNECTION_CLOSED, "Aborted"))?;
-                            control.wait(line);
-                            return Ok(());
-                        }
-                        Event::Command(Command::Stat { path: None }) if !control.has_waiting() => {
-                            log(&line);
-                            control.reply(status_of_transfer(count.load(Ordering::Relaxed)))?;
-                            control.flush().await?;
-                        }
-                        _ => control.wait(line),
-                    }
-                }
-                () = &mut stopping => {
-                    let text = "Aborted, since the server stops";
-                    control.reply(Reply::new(Code::CONNECTION_CLOSED, text))?;
-                    return Err(End::Unavailable("Stopping"));
-                }
-            }
-        }
-    }
-
-    /// The transfer over the data connection that the last command has prepared.
-    fn next_transfer(&mut self, count: Arc<AtomicU64>) -> Transfer {
-        Transfer {
-            port: mem::take(&mut self.data_port),
-            ends: self.ends,
-            acceptor: self
-                .server
-                .tls
-                .as_ref()
-                .filter(|_| self.is_private)
-                .map(|it| it.data.clone()),
-            stall: self.server.settings.stall,
-            count,
-        }
-    }
-
     /// Begins anew for a user who has logged in.
     pub fn begin(&mut self, rights: Rights) {
-        if let Some(name) = self.login.name() {
-            Span::current().record("user", field::display(name.escape_ascii()));
-        }
         self.rights = rights;
         self.directory = FilePath::default();
         self.representation = Representation::default();
         self.offset = 0;
         self.data_port = DataPort::Unset;
-        tracing::info!("logged in");
     }
 }
 
-/// Ends some time after the program is to end.
-async fn stopping(mut stop: Stop) {
-    let _ = stop.changed().await;
-    sleep_until(Instant::now() + GRACE).await;
-}
-
 /// Logs a line, without its passwords.
-fn log(line: &OwnedLine) {
+pub fn log(line: &OwnedLine) {
     if tracing::enabled!(Level::DEBUG) {
         match line.log_line() {
             Ok(line) => tracing::debug!("{line}"),
             Err(error) => tracing::debug!(%error, "a line can't be logged"),
         }
     }
-}
-
-/// The reply to a transfer.
-fn outcome(done: &Result<(), Fault>) -> Reply {
-    match done {
-        Ok(()) => Reply::new(Code::CLOSING_DATA_CONNECTION, "Transfer complete"),
-        Err(fault) => fault.reply(),
-    }
-}
-
-fn log_transfer(done: &Result<(), Fault>, count: u64) {
-    match done {
-        Ok(()) => tracing::info!(count, "transferred"),
-        Err(fault) => tracing::info!(count, %fault, "the transfer failed"),
-    }
-}
-
-fn status_of_transfer(count: u64) -> Reply {
-    Reply::new(Code::SYSTEM_STATUS, format!("A transfer is under way: {count} bytes so far"))
 }

@@ -12,6 +12,7 @@ use std::mem;
 use std::sync::atomic::{AtomicU64, Ordering};
 use std::sync::Arc;
 use std::time::Duration;
+use tokio::sync::Notify;
 use tokio::task::spawn_blocking;
 use tokio::time::timeout;
 use tokio_rustls::TlsAcceptor;
@@ -75,6 +76,8 @@ pub enum Start {
 pub enum Fault {
     /// No data connection could be opened.
     NoConnection(io::Error),
+    /// One could be opened, and didn't turn to TLS.
+    Handshake(io::Error),
     /// No file could be made.
     NoFile(io::Error),
     /// The data connection broke.
@@ -87,7 +90,7 @@ impl Fault {
     /// The reply to the transfer.
     pub fn reply(&self) -> Reply {
         match self {
-            Fault::NoConnection(_) => {
+            Fault::NoConnection(_) | Fault::Handshake(_) => {
                 Reply::new(Code::CANT_OPEN_DATA_CONNECTION, "Can't open the data connection")
             }
             Fault::NoFile(error) => replies::of_error(error),
@@ -109,6 +112,7 @@ impl Display for Fault {
     fn fmt(&self, f: &mut Formatter<'_>) -> fmt::Result {
         match self {
             Fault::NoConnection(error) => write!(f, "no data connection: {error}"),
+            Fault::Handshake(error) => write!(f, "the TLS handshake: {error}"),
             Fault::NoFile(error) => write!(f, "no file: {error}"),
             Fault::Connection(error) => write!(f, "the data connection: {error}"),
             Fault::File(error) => write!(f, "the file: {error}"),
@@ -133,28 +137,45 @@ pub struct Transfer {
 impl Transfer {
     /// Opens the data connection, does the work, and closes it. Where that is not done at once, a
     /// thread of its own waits for the client and for the disk. It ends with the connection, which
-    /// is lost where this is dropped.
-    pub async fn run(mut self, work: Work) -> Result<(), Fault> {
-        let stream = self.open().await.map_err(Fault::NoConnection)?;
+    /// is lost where this is dropped, or told to abort.
+    pub async fn run(mut self, work: Work, abort: &Notify) -> Result<(), Fault> {
+        let stream = tokio::select! {
+            opened = self.open() => opened?,
+            () = abort.notified() => return Err(Fault::NoConnection(ErrorKind::ConnectionAborted.into())),
+        };
         let mut transfer = OpenTransfer { stream, count: self.count };
         let Some(work) = transfer.send_at_once(work)? else { return Ok(()) };
         transfer.stream.wait_at_most(self.stall).map_err(Fault::Connection)?;
-        let _hang_up = transfer.stream.hang_up();
-        let done = spawn_blocking(move || transfer.run(work)).await;
+        let hang_up = transfer.stream.hang_up();
+        let mut running = spawn_blocking(move || transfer.run(work));
+        let done = tokio::select! {
+            done = &mut running => done,
+            () = abort.notified() => {
+                drop(hang_up);
+                running.await
+            }
+        };
         done.unwrap_or_else(|error| Err(Fault::File(error.into())))
     }
 
-    async fn open(&mut self) -> io::Result<DataStream> {
+    async fn open(&mut self) -> Result<DataStream, Fault> {
         let port = mem::take(&mut self.port);
-        let tcp = timeout(self.stall, port.open(self.ends)).await??;
-        match &self.acceptor {
-            Some(acceptor) => DataStream::accept_tls(tcp, acceptor, self.stall).await,
-            None => Ok(DataStream::clear(tcp)),
-        }
+        let opened = timeout(self.stall, port.open(self.ends)).await;
+        let tcp = opened.unwrap_or_else(|late| Err(late.into())).map_err(Fault::NoConnection)?;
+        let Some(acceptor) = &self.acceptor else { return Ok(DataStream::clear(tcp)) };
+        DataStream::accept_tls(tcp, acceptor, self.stall).await.map_err(Fault::Handshake)
     }
 }
 
 impl Work {
+    /// The path of a file that is to be made.
+    pub fn path(&self) -> Option<&FilePath> {
+        match self {
+            Work::Receive { target: Target::Absent(_, path, _), .. } => Some(path),
+            _ => None,
+        }
+    }
+
     /// What is sent, where that is little and the kernel has it in memory: to send it takes less
     /// time than another thread takes to begin.
     fn in_memory(&self) -> Option<Vec<u8>> {

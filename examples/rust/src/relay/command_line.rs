@@ -3,7 +3,7 @@ use super::exchange::Exchange;
 use super::rules::Allowed;
 use super::{Limits, Relay};
 use crate::listening::{self, serve};
-use crate::log;
+use crate::log::{self, Format};
 use crate::stream::tls_acceptor;
 use clap::builder::NonEmptyStringValueParser;
 use clap::{value_parser, Arg, ArgMatches, Command};
@@ -39,6 +39,11 @@ pub fn command(name: &'static str, about: &'static str) -> Command {
         )
         .arg(path("certificate", "PEM", "Certificates for TLS toward clients").requires("key"))
         .arg(path("key", "PEM", "The private key of the first certificate").requires("certificate"))
+        .arg(
+            option("log-format", "FORMAT", "text, or json: an object a line")
+                .value_parser(value_parser!(Format))
+                .default_value("text"),
+        )
         .arg(number("connections", "500", "Clients at a time").value_parser(count))
         .arg(number("per-address", "200", "Clients of one address").value_parser(count))
         .arg(number("idle", "900", "Seconds without a line or a reply").value_parser(count))
@@ -70,7 +75,8 @@ pub async fn run(
     allowed: Allowed,
     exchanges: Option<mpsc::Sender<Exchange>>,
 ) -> io::Result<()> {
-    let _end = log::start(LevelFilter::INFO)?;
+    let format = matches.get_one::<Format>("log-format").copied();
+    let _end = log::start(LevelFilter::INFO, format.unwrap_or_default())?;
     let number = |name| matches.get_one::<u32>(name).copied().unwrap_or_default();
     let seconds = |name| Duration::from_secs(number(name).into());
     let file = |name| matches.get_one::<PathBuf>(name);

@@ -1,0 +1,140 @@
+//! The log's lines for what users do: one for each login, each transfer and each change. They have
+//! names and paths as values, in which the log escapes what would end or change its line. They have
+//! no password.
+use crate::folder::FilePath;
+use crate::line::{first_word, listed, named};
+use crate::session::Session;
+use std::borrow::Cow;
+use std::time::Instant;
+use tracing::field;
+use unftp_control::{Command, Event, OwnedLine, Reply};
+
+/// What a line asks for that has a line in the log.
+pub struct Action {
+    is_transfer: bool,
+    verb: &'static str,
+    path: FilePath,
+    /// What had the path before, where it is a new name.
+    from: Option<FilePath>,
+    begun: Instant,
+}
+
+/// What came of an action.
+pub struct Outcome {
+    /// `ok`, or the reply.
+    result: String,
+    /// What the system says of it.
+    error: Option<String>,
+}
+
+impl Outcome {
+    /// That of a reply.
+    pub fn of(reply: &Reply, error: Option<String>) -> Outcome {
+        let code = reply.code().to_string();
+        let text = reply.lines().next().unwrap_or_default();
+        let result =
+            if code.starts_with('2') { "ok".to_string() } else { format!("{code} {text}") };
+        Outcome { result, error }
+    }
+
+    /// That of a transfer whose client is away, so that it gets no reply.
+    pub fn gone() -> Outcome {
+        Outcome { result: "the client is gone".to_string(), error: None }
+    }
+}
+
+impl Action {
+    /// That of a line, where it is one of somebody who has logged in.
+    pub fn of(line: &OwnedLine, session: &Session) -> Option<Action> {
+        session.login.name()?;
+        let Event::Command(command) = &line.event else { return None };
+        let transfer = transferred(command, line);
+        let (verb, named) = transfer.clone().or_else(|| changed(command, line))?;
+        Some(Action {
+            is_transfer: transfer.is_some(),
+            verb,
+            path: session.directory.join(&named),
+            from: session.renamed.clone().filter(|_| verb == "RNTO"),
+            begun: Instant::now(),
+        })
+    }
+
+    /// The same for another path, which its line doesn't have.
+    pub fn at(self, path: Option<&FilePath>) -> Action {
+        Action { path: path.cloned().unwrap_or(self.path), ..self }
+    }
+
+    /// Logs it, with how many bytes were sent or received.
+    pub fn log(&self, session: &Session, bytes: u64, outcome: &Outcome) {
+        let user = text(session.login.name().unwrap_or_default());
+        let path = self.path.bytes();
+        let (verb, path, user) = (field::display(self.verb), &*text(&path), &*user);
+        let Outcome { result, error } = outcome;
+        if self.is_transfer {
+            // whole milliseconds
+            let seconds = (self.begun.elapsed().as_secs_f64() * 1000.0).round() / 1000.0;
+            let error = error.as_deref();
+            tracing::info!(verb, path, bytes, seconds, result, error, user, "transfer");
+        } else {
+            let from = self.from.as_ref().map(FilePath::bytes);
+            let from = from.as_deref().map(text);
+            tracing::info!(verb, path, from = from.as_deref(), result, user, "change");
+        }
+    }
+}
+
+/// The verb of a transfer, and what it names.
+fn transferred(command: &Command<'_>, line: &OwnedLine) -> Option<(&'static str, Vec<u8>)> {
+    Some(match command {
+        Command::Retr { path } => ("RETR", named(path, line)),
+        Command::Stor { path } => ("STOR", named(path, line)),
+        Command::Appe { path } => ("APPE", named(path, line)),
+        Command::Stou => ("STOU", Vec::new()),
+        Command::List { .. } => ("LIST", listed(line)),
+        Command::Nlst { .. } => ("NLST", listed(line)),
+        Command::Mlsd { path } => {
+            ("MLSD", path.as_deref().map_or_else(Vec::new, |it| named(it, line)))
+        }
+        _ => return None,
+    })
+}
+
+/// The verb of a change, and what it names.
+fn changed(command: &Command<'_>, line: &OwnedLine) -> Option<(&'static str, Vec<u8>)> {
+    Some(match command {
+        Command::Dele { path } => ("DELE", named(path, line)),
+        Command::Rmd { path } => ("RMD", named(path, line)),
+        Command::Mkd { path } => ("MKD", named(path, line)),
+        Command::Rnto { file } => ("RNTO", named(file, line)),
+        Command::Site { command, .. } if command == "CHMOD" => {
+            ("CHMOD", first_word(&first_word(line.parameter()).1).1)
+        }
+        Command::Other { command_name, .. } if command_name == "MFMT" => {
+            ("MFMT", first_word(line.parameter()).1)
+        }
+        Command::Other { command_name, arguments } if command_name == "XRMD" => {
+            ("RMD", named(arguments, line))
+        }
+        _ => return None,
+    })
+}
+
+/// Logs a login.
+pub fn login(name: &[u8]) {
+    tracing::info!(user = &*text(name), "login");
+}
+
+/// Logs one that failed.
+pub fn failed_login(name: &[u8]) {
+    tracing::warn!(user = &*text(name), "login failed");
+}
+
+/// Logs a control connection that doesn't turn to TLS.
+pub fn failed_handshake(error: &std::io::Error) {
+    tracing::warn!(error = &*error.to_string(), "TLS handshake failed");
+}
+
+/// Bytes as a value, with U+FFFD for what is not UTF-8.
+fn text(bytes: &[u8]) -> Cow<'_, str> {
+    String::from_utf8_lossy(bytes)
+}
