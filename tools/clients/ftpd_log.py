@@ -1,11 +1,12 @@
 """What the log of ftpd has of transfers, changes and logins: checks of tools/clients/ftpd."""
 
+import contextlib
 import json
 import os
 import pathlib
 import re
 
-from ftpd_server import HOST, LARGE, PASSWORD, USER, Server, Wrong, certificate, has_ipv6, make_file, tls_context, until_logged, wants
+from ftpd_server import HOST, LARGE, PASSWORD, USER, Server, Wrong, certificate, has_ipv6, make_file, read_all, tls_context, until_logged, wants
 
 PAGE = pathlib.Path(__file__).resolve().parents[2] / "docs" / "PROGRAMS.md"
 # a line of the log as text
@@ -54,7 +55,8 @@ def check_logged_transfers(program):
         control.wants("RETR large", 150)
         data.recv(1000)
         control.connection.close()
-        data.close()
+        with data, contextlib.suppress(ConnectionResetError):
+            read_all(data)
         until_logged(server, ": transfer ", 8)
         found = entries(server, "transfer")
         wants("who did it", {shown(entry, "user", "address") for entry in found}, {(f'"{USER}"', HOST)})

@@ -19,6 +19,8 @@ USER, READER, PASSWORD = "anna", "ben", "secret"
 SECRET = b"outside"
 LARGE = 256 * 1024 * 1024
 OTHER_HOST = "127.0.0.2"
+# runs a program without the right of root to pass over the modes of files
+BY_MODES = [sys.executable, "-c", "import ctypes, os, sys; [ctypes.CDLL(None).prctl(24, each) for each in range(64)]; os.execv(sys.argv[1], sys.argv[1:])"]
 
 
 class Control:

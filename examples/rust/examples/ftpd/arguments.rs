@@ -1,4 +1,5 @@
 //! What the command line says.
+use crate::upload::Cut;
 use crate::users::ROUNDS;
 use clap::{value_parser, Arg, ArgAction, ArgMatches, Command};
 use std::net::{Ipv4Addr, SocketAddr};
@@ -47,6 +48,8 @@ pub struct Settings {
     pub tls: Option<(PathBuf, PathBuf)>,
     /// Whether names, passwords and files are only taken and sent under TLS.
     pub require_tls: bool,
+    /// What happens with what came of an upload that is cut.
+    pub cut_uploads: Cut,
     /// How many connections there may be.
     pub limits: Limits,
     /// How long a client may send no line.
@@ -77,6 +80,7 @@ pub fn task() -> Task {
         public_address: matches.get_one("public-address").copied(),
         tls: file("certificate").zip(file("key")),
         require_tls: matches.get_flag("require-tls"),
+        cut_uploads: matches.get_one("cut-uploads").copied().unwrap_or(Cut::Kept),
         limits: Limits {
             connections: number(&matches, "connections") as usize,
             per_address: number(&matches, "per-address") as usize,
@@ -107,6 +111,7 @@ fn command() -> Command {
         .args(listening())
         .args(users())
         .args(encryption())
+        .arg(cut_uploads())
         .args(limits())
         .after_help(SIGNALS)
 }
@@ -161,6 +166,16 @@ fn encryption() -> [Arg; 3] {
             .requires("certificate"),
         flag("require-tls", "No passwords and no files in clear text").requires("certificate"),
     ]
+}
+
+fn cut_uploads() -> Arg {
+    option("cut-uploads", "keep|remove", "What happens with what came of an upload that is cut")
+        .value_parser(|text: &str| match text {
+            "keep" => Ok(Cut::Kept),
+            "remove" => Ok(Cut::Removed),
+            _ => Err("keep or remove"),
+        })
+        .default_value("keep")
 }
 
 fn limits() -> [Arg; 4] {

@@ -4,8 +4,9 @@ use crate::line::{listed, named};
 use crate::listing::{Fact, Form};
 use crate::record;
 use crate::replies;
+use crate::representation::Representation;
 use crate::session::Session;
-use crate::transfer::{Representation, Work};
+use crate::transfer::Work;
 use std::borrow::Cow;
 use unftp_control::{
     AuthParam, Command, Event, LoginStep, ModeParam, Opt, OwnedLine, ProtParam, Refusal, Reply,

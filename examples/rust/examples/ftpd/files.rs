@@ -5,8 +5,10 @@ use crate::folder::{is_type, FilePath, Folder, New};
 use crate::line::first_word;
 use crate::listing::{fact_list, parsed_time, time_value, Form, Listing};
 use crate::replies;
+use crate::representation::Representation;
 use crate::session::Session;
-use crate::transfer::{blocking, size, Representation, Start, Target, Work};
+use crate::transfer::{blocking, size, Start, Work};
+use crate::upload::Target;
 use crate::users::Rights;
 use rustix::fs::FileType;
 use std::borrow::Cow;
@@ -82,13 +84,10 @@ impl Session {
     /// What receives a file, and how many bytes it has. Where there is none, it is only made for a
     /// transfer that begins at its start.
     async fn target(&self, named: &[u8], offset: u64, new: New) -> Result<(Target, u64), Reply> {
-        let open = if new == New::Appended { Folder::append } else { Folder::write };
-        let target = move |folder: &Folder, path: &FilePath| match open(folder, path) {
-            Err(error) if error.kind() == io::ErrorKind::NotFound && offset == 0 => {
-                folder.may_create(path)?;
-                Ok((Target::Absent(folder.clone(), path.clone(), new), 0))
-            }
-            opened => opened.map(|(file, facts)| (Target::Open(file), size(&facts))),
+        let cut = self.server.settings.cut_uploads;
+        let target = move |folder: &Folder, path: &FilePath| match new {
+            New::Written if offset == 0 => Target::whole(folder, path, cut),
+            new => Target::rest(folder, path, offset, new, cut),
         };
         self.in_folder(named, target).await
     }
@@ -119,7 +118,7 @@ impl Session {
         Ok(Answer::Transfer(opening, Work::Send { file, offset, size, representation }))
     }
 
-    /// STOR writes in place, so that an upload that breaks off can go on.
+    /// STOR after REST goes on with an upload that broke off.
     pub async fn store(&mut self, named: &[u8]) -> Answered {
         let offset = mem::take(&mut self.offset);
         self.writes()?;
@@ -148,7 +147,8 @@ impl Session {
         self.data_connection()?;
         let path = self.in_folder(b"", Folder::choose).await?;
         let text = format!("FILE: {}", String::from_utf8_lossy(path.name().unwrap_or_default()));
-        let target = Target::Absent(self.server.folder.clone(), path, New::Unique);
+        let cut = self.server.settings.cut_uploads;
+        let target = Target::Absent(self.server.folder.clone(), path, New::Unique, cut);
         self.receive(target, Start::Offset(0), text)
     }
 

@@ -201,7 +201,7 @@ impl Folder {
     }
 
     /// The directory that a path is in, and its name there, which is none of the folder itself.
-    fn parent<'a>(&self, path: &'a FilePath) -> io::Result<(OwnedFd, &'a OsStr)> {
+    pub fn parent<'a>(&self, path: &'a FilePath) -> io::Result<(OwnedFd, &'a OsStr)> {
         let (name, parent) = path.names.split_last().ok_or(Errno::BUSY)?;
         let parent = FilePath { names: parent.to_vec() };
         let flags = OFlags::PATH | OFlags::DIRECTORY;

@@ -1,5 +1,6 @@
 //! Listings: lines as those of `ls -l`, names, and facts (RFC 3659, section 7).
 use crate::folder::{FilePath, Folder};
+use crate::upload::BESIDE;
 use crate::users::Rights;
 use rustix::fs::{statat, AtFlags, Dir, FileType, Stat};
 use rustix::io::OwnedFd;
@@ -187,8 +188,8 @@ impl Listing {
     }
 
     /// Its next entry, with its facts where they are shown. One that is deleted meanwhile is left
-    /// out, and so is one whose name has a line feed: no command can name it, and in a listing it
-    /// would look like two.
+    /// out, and so are an upload under way and a name with a line feed: no command can name that, and
+    /// in a listing it would look like two.
     fn next_entry(&mut self) -> io::Result<Option<(Vec<u8>, Option<Stat>)>> {
         let (directory, entries) = match &mut self.entries {
             Entries::One(facts) => {
@@ -200,7 +201,7 @@ impl Listing {
         while let Some(entry) = entries.read() {
             let entry = entry?;
             let name = entry.file_name().to_bytes();
-            if matches!(name, b"." | b"..") || name.contains(&b'\n') {
+            if matches!(name, b"." | b"..") || name.contains(&b'\n') || name.starts_with(BESIDE) {
                 continue;
             }
             if self.pattern.as_ref().is_some_and(|pattern| !is_of(pattern, name)) {

@@ -8,8 +8,8 @@
 //!
 //! What each file shows: `control` lines and replies, `session` and `transferring` a transfer beside
 //! them, `commands`, `ports` and `files` the answers, `record` the log, `transfer` and `data` data
-//! connections, most of which have a thread while they are open, `folder` paths that the kernel keeps
-//! in the folder.
+//! connections, most of which have a thread while they are open, `upload` files that are received,
+//! `folder` paths that the kernel keeps in the folder.
 //!
 //! lftp sends an address as the name of the server, which RFC 6066 forbids and rustls 0.20 refuses:
 //! `set ssl:use-sni no` there, or name the server.
@@ -24,10 +24,12 @@ mod listing;
 mod ports;
 mod record;
 mod replies;
+mod representation;
 mod server;
 mod session;
 mod transfer;
 mod transferring;
+mod upload;
 mod users;
 
 use arguments::{Settings, Task};

@@ -1,8 +1,10 @@
 //! What is sent and received over a data connection.
 use crate::data::{DataPort, DataStream, Ends};
-use crate::folder::{FilePath, Folder, New};
+use crate::folder::FilePath;
 use crate::listing::Listing;
 use crate::replies;
+use crate::representation::{Representation, Sink};
+use crate::upload::Target;
 use rustix::fs::{sendfile, Stat};
 use rustix::io::{preadv2, Errno, ReadWriteFlags};
 use std::fmt::{self, Display, Formatter};
@@ -23,16 +25,6 @@ const PART: usize = 256 * 1024;
 /// A file of no more bytes is sent at once: a new connection takes so many without a wait.
 const SMALL: u64 = 16 * 1024;
 
-/// How bytes are represented on a data connection (RFC 959, section 3.1.1).
-#[derive(Clone, Copy, Debug, Default, PartialEq, Eq)]
-pub enum Representation {
-    /// Lines that end with CR LF.
-    #[default]
-    Ascii,
-    /// The bytes as they are.
-    Image,
-}
-
 /// What a transfer does.
 pub enum Work {
     /// Sends a file from an offset on, after which it has so many bytes.
@@ -43,23 +35,6 @@ pub enum Work {
     List(Box<Listing>),
     /// Receives a file.
     Receive { target: Target, start: Start, representation: Representation },
-}
-
-/// The file that is received.
-pub enum Target {
-    /// One that is there, and open.
-    Open(File),
-    /// One that is made once the data connection is open, so that none is left where it never opens.
-    Absent(Folder, FilePath, New),
-}
-
-impl Target {
-    fn open(self) -> io::Result<File> {
-        match self {
-            Target::Open(file) => Ok(file),
-            Target::Absent(folder, path, new) => folder.create(&path, new),
-        }
-    }
 }
 
 /// Where a received file begins.
@@ -171,7 +146,7 @@ impl Work {
     /// The path of a file that is to be made.
     pub fn path(&self) -> Option<&FilePath> {
         match self {
-            Work::Receive { target: Target::Absent(_, path, _), .. } => Some(path),
+            Work::Receive { target, .. } => target.path(),
             _ => None,
         }
     }
@@ -188,16 +163,6 @@ impl Work {
         let count = preadv2(file, area, *offset, ReadWriteFlags::NOWAIT).ok()?;
         bytes.truncate(count);
         (count as u64 == *size).then(|| representation.sent(bytes))
-    }
-}
-
-impl Representation {
-    /// The bytes of a file as they are sent.
-    fn sent(self, bytes: Vec<u8>) -> Vec<u8> {
-        match self {
-            Representation::Ascii => with_crlf(&bytes),
-            Representation::Image => bytes,
-        }
     }
 }
 
@@ -244,8 +209,8 @@ impl OpenTransfer {
             }),
             Work::List(mut listing) => self.send(|part| listing.next_part(part)),
             Work::Receive { target, start, representation } => {
-                let file = target.open().map_err(Fault::NoFile)?;
-                self.receive(Sink::new(file, start, representation).map_err(Fault::File)?)
+                let upload = target.open().map_err(Fault::NoFile)?;
+                self.receive(Sink::new(upload, start, representation).map_err(Fault::File)?)
             }
         }
     }
@@ -315,21 +280,34 @@ impl OpenTransfer {
         Ok(())
     }
 
-    /// Receives a file. What came stays, also where the connection broke: a client goes on from
-    /// there by REST.
+    /// Receives a file.
     fn receive(&mut self, mut sink: Sink) -> Result<(), Fault> {
+        match self.fill(&mut sink) {
+            Ok(()) => {
+                sink.finish().map_err(Fault::NoFile)?;
+                // The file is whole, also where the client is away.
+                let _ = self.stream.finish();
+                Ok(())
+            }
+            Err(fault) => {
+                sink.cut().map_err(Fault::NoFile)?;
+                Err(fault)
+            }
+        }
+    }
+
+    /// Writes what comes, up to its end.
+    fn fill(&mut self, sink: &mut Sink) -> Result<(), Fault> {
         let mut part = vec![0; PART];
         loop {
             let count = match self.stream.read(&mut part) {
                 Err(error) if error.kind() == ErrorKind::Interrupted => continue,
                 read => read.map_err(Fault::Connection)?,
             };
-            sink.write(&part[..count]).map_err(Fault::File)?;
             if count == 0 {
-                // The file is whole, also where the client is away.
-                let _ = self.stream.finish();
                 return Ok(());
             }
+            sink.write(&part[..count]).map_err(Fault::File)?;
             self.count(count);
         }
     }
@@ -351,94 +329,7 @@ pub async fn blocking<T: Send + 'static>(
     spawn_blocking(work).await?
 }
 
-/// Each line feed as CR LF.
-fn with_crlf(part: &[u8]) -> Vec<u8> {
-    let mut lines = Vec::with_capacity(part.len() + part.len() / 16);
-    for line in part.split_inclusive(|byte| *byte == b'\n') {
-        match line.strip_suffix(b"\n") {
-            Some(text) => {
-                lines.extend_from_slice(text);
-                lines.extend_from_slice(b"\r\n");
-            }
-            None => lines.extend_from_slice(line),
-        }
-    }
-    lines
-}
-
-/// A file that is received.
-struct Sink {
-    file: File,
-    representation: Representation,
-    /// In ASCII, whether the last byte was a CR, which is not written before the next one.
-    has_cr: bool,
-}
-
-impl Sink {
-    fn new(mut file: File, start: Start, representation: Representation) -> io::Result<Sink> {
-        if let Start::Offset(offset) = start {
-            // ext4 writes a file that was truncated to nothing to the disk before it is closed
-            if file.metadata()?.len() > offset {
-                file.set_len(offset)?;
-            }
-            file.seek(SeekFrom::Start(offset))?;
-        }
-        Ok(Sink { file, representation, has_cr: false })
-    }
-
-    /// Writes a part, of which an empty one is the end.
-    fn write(&mut self, part: &[u8]) -> io::Result<()> {
-        match self.representation {
-            Representation::Image => self.file.write_all(part),
-            Representation::Ascii => {
-                let text = without_crlf(part, &mut self.has_cr);
-                self.file.write_all(&text)
-            }
-        }
-    }
-}
-
-/// Each CR LF as a line feed. A CR at the end is kept for the next part; an empty part is the end.
-fn without_crlf(part: &[u8], has_cr: &mut bool) -> Vec<u8> {
-    let mut text = Vec::with_capacity(part.len() + 1);
-    for byte in part {
-        if *has_cr && *byte != b'\n' {
-            text.push(b'\r');
-        }
-        *has_cr = *byte == b'\r';
-        if !*has_cr {
-            text.push(*byte);
-        }
-    }
-    if part.is_empty() && mem::take(has_cr) {
-        text.push(b'\r');
-    }
-    text
-}
-
 /// How many bytes a file has.
 pub fn size(facts: &Stat) -> u64 {
     u64::try_from(facts.st_size).unwrap_or_default()
-}
-
-#[cfg(test)]
-mod tests {
-    use super::*;
-
-    #[test]
-    fn lines_end_with_crlf() {
-        assert_eq!(with_crlf(b"a\n\nb\r\nc"), b"a\r\n\r\nb\r\r\nc");
-    }
-
-    #[test]
-    fn files_end_lines_with_line_feeds() {
-        let input = b"a\r\nb\rc\r\r\n\r\n\rd\r";
-        for size in 1..=input.len() {
-            let (mut has_cr, mut text) = (false, Vec::new());
-            for part in input.chunks(size).chain([&b""[..]]) {
-                text.extend(without_crlf(part, &mut has_cr));
-            }
-            assert_eq!(text, b"a\nb\rc\r\n\n\rd\r", "in parts of {size}");
-        }
-    }
 }
