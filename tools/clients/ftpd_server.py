@@ -5,6 +5,7 @@ import os
 import pathlib
 import re
 import shutil
+import signal
 import socket
 import ssl
 import subprocess
@@ -138,6 +139,11 @@ class Server(StartedServer):
 
     def logged(self):
         return (self.place / "log").read_text(encoding="utf-8")
+
+    def reads_again(self, count):
+        """Lets it read its files again, which it has done so often then."""
+        os.kill(child(self), signal.SIGHUP)
+        until_logged(self, "read again", count)
 
     def control(self, source=HOST, port=None):
         connection = socket.create_connection((HOST, port or self.port), PATIENCE, (source, 0))

@@ -68,8 +68,8 @@ impl Session {
         done.map_err(|error| replies::of_error(&error))
     }
 
-    /// Looks for what a client names: here and now where the kernel has it in memory, since that
-    /// takes less time than another thread takes to begin.
+    /// Looks for what a client names: here and now where that waits for nothing, since it takes less
+    /// time than another thread takes to begin.
     async fn look_up<T: Send + 'static>(
         &self,
         named: &[u8],

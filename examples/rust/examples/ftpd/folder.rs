@@ -1,6 +1,7 @@
 //! The folder that is served. The kernel keeps each path in it: `openat2` resolves it below a
 //! descriptor of the folder and refuses links and `..` that lead out, whatever is renamed
 //! meanwhile.
+use crate::devices::{Devices, Kind};
 use rustix::fs::{self, AtFlags, Dir, FileType, Mode, OFlags, ResolveFlags, Stat, Timestamps};
 use rustix::io::{Errno, OwnedFd};
 use std::ffi::OsStr;
@@ -81,6 +82,8 @@ const TRIES: usize = 1000;
 #[derive(Clone)]
 pub struct Folder {
     root: Arc<OwnedFd>,
+    /// Which file systems were met in it.
+    devices: Devices,
     /// How paths in it are resolved.
     resolve: ResolveFlags,
     /// How many names of its own it has chosen.
@@ -97,13 +100,14 @@ impl Folder {
         let flags = OFlags::PATH | OFlags::DIRECTORY | OFlags::CLOEXEC;
         let root = fs::openat(fs::cwd(), path, flags, Mode::empty())?;
         let resolve = ResolveFlags::BENEATH | ResolveFlags::NO_MAGICLINKS;
-        let folder = Folder { root: Arc::new(root), resolve, chosen: Arc::default() };
+        let devices = Devices::default();
+        let folder = Folder { root: Arc::new(root), devices, resolve, chosen: Arc::default() };
         folder.facts(&FilePath::default())?;
         Ok(folder)
     }
 
-    /// The same folder, whose paths are only found where the kernel has them in memory, so that no
-    /// disk is waited for. Before Linux 5.12 none are.
+    /// The same folder for a thread that may wait for nothing: only paths are found that the kernel has
+    /// in memory, and files opened whose file system is there. Before Linux 5.12 none are.
     pub fn in_memory(&self) -> Folder {
         Folder { resolve: self.resolve | ResolveFlags::CACHED, ..self.clone() }
     }
@@ -112,15 +116,38 @@ impl Folder {
     /// one.
     fn open_below(&self, path: &FilePath, flags: OFlags, mode: Mode) -> io::Result<OwnedFd> {
         let flags = flags | OFlags::CLOEXEC;
-        let mut left = if self.resolve.contains(ResolveFlags::CACHED) { 1 } else { TRIES };
+        if self.resolve.contains(ResolveFlags::CACHED) {
+            return self.open_at_once(path, flags, mode);
+        }
+        let mut left = TRIES;
         loop {
             left -= 1;
-            match fs::openat2(&*self.root, path.relative(), flags, mode, self.resolve) {
+            match self.try_open(path, flags, mode) {
                 // While a directory is renamed, the kernel may not know where `..` in a link leads.
                 // It says the same of a file that another process has leased.
                 Err(Errno::AGAIN | Errno::INTR) if left > 0 => {}
-                opened => return Ok(opened?),
+                opened => {
+                    let opened = opened?;
+                    self.devices.learn(&opened);
+                    return Ok(opened);
+                }
             }
+        }
+    }
+
+    fn try_open(&self, path: &FilePath, flags: OFlags, mode: Mode) -> Result<OwnedFd, Errno> {
+        fs::openat2(&*self.root, path.relative(), flags, mode, self.resolve)
+    }
+
+    /// Opens a path of a file system that is known to answer at once. `O_PATH` asks none.
+    fn open_at_once(&self, path: &FilePath, flags: OFlags, mode: Mode) -> io::Result<OwnedFd> {
+        let looks = flags.contains(OFlags::PATH);
+        let kept = OFlags::PATH | OFlags::CLOEXEC | OFlags::DIRECTORY;
+        let found = self.try_open(path, (flags | OFlags::PATH) & kept, Mode::empty())?;
+        match self.devices.kind(&found) {
+            Some(Kind::Memory) if !looks => Ok(self.try_open(path, flags, mode)?),
+            Some(Kind::Memory | Kind::Disk) if looks => Ok(found),
+            _ => Err(Errno::AGAIN.into()),
         }
     }
 

@@ -17,6 +17,7 @@ mod arguments;
 mod commands;
 mod control;
 mod data;
+mod devices;
 mod files;
 mod folder;
 mod line;

@@ -114,9 +114,19 @@ impl Transfer {
     /// thread of its own waits for the client and for the disk. It ends with the connection, which
     /// is lost where this is dropped, or told to abort.
     pub async fn run(mut self, work: Work, abort: &Notify) -> Result<(), Fault> {
-        let stream = tokio::select! {
-            opened = self.open() => opened?,
-            () = abort.notified() => return Err(Fault::NoConnection(ErrorKind::ConnectionAborted.into())),
+        let opened = tokio::select! {
+            opened = self.open() => opened,
+            () = abort.notified() => {
+                Err(Fault::NoConnection(ErrorKind::ConnectionAborted.into()))
+            }
+        };
+        let stream = match opened {
+            Ok(stream) => stream,
+            Err(fault) => {
+                // to close a file may take as long as to open it
+                spawn_blocking(move || drop(work));
+                return Err(fault);
+            }
         };
         let mut transfer = OpenTransfer { stream, count: self.count };
         let Some(work) = transfer.send_at_once(work)? else { return Ok(()) };
