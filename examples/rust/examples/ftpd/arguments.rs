@@ -1,4 +1,5 @@
 //! What the command line says.
+use crate::guesses;
 use crate::upload::Cut;
 use crate::users::ROUNDS;
 use clap::{value_parser, Arg, ArgAction, ArgMatches, Command};
@@ -52,6 +53,8 @@ pub struct Settings {
     pub cut_uploads: Cut,
     /// How many connections there may be.
     pub limits: Limits,
+    /// How many passwords may be wrong.
+    pub guesses: guesses::Limits,
     /// How long a client may send no line.
     pub idle: Duration,
     /// How long a data connection may take to open, and may then stand still; and how long a client
@@ -84,6 +87,10 @@ pub fn task() -> Task {
         limits: Limits {
             connections: number(&matches, "connections") as usize,
             per_address: number(&matches, "per-address") as usize,
+        },
+        guesses: guesses::Limits {
+            per_address: number(&matches, "wrong-per-address"),
+            per_name: number(&matches, "wrong-per-name"),
         },
         idle: seconds("idle"),
         stall: seconds("stall"),
@@ -178,10 +185,16 @@ fn cut_uploads() -> Arg {
         .default_value("keep")
 }
 
-fn limits() -> [Arg; 4] {
+fn limits() -> [Arg; 6] {
     [
         ("connections", "Connections of all clients", "200"),
         ("per-address", "Connections of one address", "150"),
+        (
+            "wrong-per-address",
+            "Wrong passwords of one address; one is forgiven in 30 seconds",
+            "20",
+        ),
+        ("wrong-per-name", "The same of one name, from wherever they come", "100"),
         ("idle", "Seconds that a client may send no line", "300"),
         ("stall", "Seconds that a data connection may stand still", "60"),
     ]

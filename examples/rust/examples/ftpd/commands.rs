@@ -5,9 +5,11 @@ use crate::listing::{Fact, Form};
 use crate::record;
 use crate::replies;
 use crate::representation::Representation;
+use crate::server::Checked;
 use crate::session::Session;
 use crate::transfer::Work;
 use std::borrow::Cow;
+use std::time::Duration;
 use unftp_control::{
     AuthParam, Command, Event, LoginStep, ModeParam, Opt, OwnedLine, ProtParam, Refusal, Reply,
     ReplyCode as Code, StruParam,
@@ -19,8 +21,10 @@ pub enum Answer {
     Reply(Reply),
     /// Sends a reply, and transfers.
     Transfer(Reply, Work),
-    /// Sends a reply to a wrong password.
-    WrongPassword(Reply),
+    /// Sends a reply to a wrong password, after a time.
+    WrongPassword(Reply, Duration),
+    /// Ends, since too many passwords were wrong.
+    UnseenPassword,
     /// Sends a reply, and turns to TLS.
     TurnToTls(Reply),
     /// Sends a reply, and ends.
@@ -87,21 +91,35 @@ impl Session {
                 return Some(Answer::Reply(refusal));
             }
         }
-        let (name, rights) = match self.login.event(&line.event) {
+        let (name, checked) = match self.login.event(&line.event) {
             LoginStep::PassOn => return None,
             LoginStep::Answer(reply) => return Some(Answer::Reply(reply)),
             LoginStep::AskAccounts { name, password } => {
-                (name.to_vec(), self.server.users.rights(name, password.as_bytes()).await)
+                let checked = self.server.check(name, password.as_bytes(), self.ends.client);
+                (name.to_vec(), checked.await)
             }
         };
-        let reply = self.login.answer(rights.is_some());
-        let Some(rights) = rights else {
-            record::failed_login(&name);
-            return Some(Answer::WrongPassword(reply));
-        };
-        record::login(&name);
-        self.begin(rights);
-        Some(Answer::Reply(reply))
+        let reply = self.login.answer(matches!(checked, Checked::Right(_)));
+        Some(self.logged_in(&name, checked, reply))
+    }
+
+    /// The answer to a password.
+    fn logged_in(&mut self, name: &[u8], checked: Checked, reply: Reply) -> Answer {
+        match checked {
+            Checked::Right(rights) => {
+                record::login(name);
+                self.begin(rights);
+                Answer::Reply(reply)
+            }
+            Checked::Wrong(delay) => {
+                record::failed_login(name);
+                Answer::WrongPassword(reply, delay)
+            }
+            Checked::Unseen => {
+                record::failed_login(name);
+                Answer::UnseenPassword
+            }
+        }
     }
 
     /// The answer to a command of somebody who may give it.

@@ -20,6 +20,7 @@ mod data;
 mod devices;
 mod files;
 mod folder;
+mod guesses;
 mod line;
 mod listing;
 mod ports;

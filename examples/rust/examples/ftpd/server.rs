@@ -2,9 +2,12 @@
 use crate::about;
 use crate::arguments::Settings;
 use crate::folder::Folder;
-use crate::users::Users;
+use crate::guesses::Guesses;
+use crate::users::{Rights, Users};
 use std::io;
+use std::net::IpAddr;
 use std::sync::Arc;
+use std::time::Duration;
 use unftp_control_examples::stream::TlsAcceptors;
 
 /// What a session shares with others.
@@ -15,11 +18,42 @@ pub struct Server {
     pub folder: Folder,
     /// Who may log in.
     pub users: Arc<Users>,
+    /// What is known of wrong passwords.
+    pub guesses: Arc<Guesses>,
     /// What turns connections to TLS, where there is a certificate.
     pub tls: Option<TlsAcceptors>,
 }
 
+/// What a password is.
+pub enum Checked {
+    /// That of a user who may do this.
+    Right(Rights),
+    /// Wrong. Its reply is to take so long.
+    Wrong(Duration),
+    /// Not looked at, since too many were wrong before.
+    Unseen,
+}
+
 impl Server {
+    /// Looks at the password of a name that comes from an address.
+    pub async fn check(&self, name: &[u8], password: &[u8], from: IpAddr) -> Checked {
+        if let Some(rights) = self.users.rights_of_anybody(name) {
+            return Checked::Right(rights);
+        }
+        let _turn = self.guesses.turn(from).await;
+        // others may have been wrong meanwhile
+        if self.guesses.refuses(name, from) {
+            return Checked::Unseen;
+        }
+        match self.users.rights(name, password).await {
+            Some(rights) => {
+                self.guesses.right(name, from);
+                Checked::Right(rights)
+            }
+            None => Checked::Wrong(self.guesses.wrong(name, from)),
+        }
+    }
+
     /// Opens the folder, and reads the files that the settings name.
     ///
     /// # Errors
@@ -29,7 +63,8 @@ impl Server {
         let named = settings.folder.display().to_string();
         let folder = Folder::open(&settings.folder).map_err(|error| about(&named, error))?;
         let (users, tls) = (read_users(&settings)?, read_tls(&settings)?);
-        Ok(Server { settings: Arc::new(settings), folder, users, tls })
+        let guesses = Arc::new(Guesses::new(settings.guesses));
+        Ok(Server { settings: Arc::new(settings), folder, users, guesses, tls })
     }
 
     /// The same with what the files have now. Where one is at fault, which is logged, what was read
@@ -38,6 +73,7 @@ impl Server {
         Server {
             settings: self.settings.clone(),
             folder: self.folder.clone(),
+            guesses: self.guesses.clone(),
             users: or_before(read_users(&self.settings), &self.users),
             tls: or_before(read_tls(&self.settings), &self.tls),
         }

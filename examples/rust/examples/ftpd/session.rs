@@ -22,7 +22,7 @@ use unftp_control_examples::stream::Stream;
 const LOGIN_TIME: Duration = Duration::from_secs(120);
 /// How many passwords of a session may be wrong.
 const WRONG_PASSWORDS: u32 = 3;
-/// How long the reply to a wrong password takes.
+/// How long the reply takes to a password that is not looked at.
 const DELAY: Duration = Duration::from_secs(1);
 /// How long a client may take to read the last reply and to close.
 const LINGER: Duration = Duration::from_secs(5);
@@ -182,13 +182,17 @@ impl Session {
                     let action = action.map(|it| it.at(work.path()));
                     self.transfer(control, work, action).await?;
                 }
-                Answer::WrongPassword(reply) => {
+                Answer::WrongPassword(reply, delay) => {
                     self.wrong_passwords += 1;
-                    sleep(DELAY).await;
+                    sleep(delay).await;
                     if self.wrong_passwords == WRONG_PASSWORDS {
-                        return Err(End::Unavailable("Too many wrong passwords"));
+                        return Err(too_many_passwords());
                     }
                     control.reply(reply)?;
+                }
+                Answer::UnseenPassword => {
+                    sleep(DELAY).await;
+                    return Err(too_many_passwords());
                 }
                 Answer::TurnToTls(reply) => {
                     control.reply(reply)?;
@@ -230,6 +234,10 @@ impl Session {
         self.offset = 0;
         self.data_port = DataPort::Unset;
     }
+}
+
+fn too_many_passwords() -> End {
+    End::Unavailable("Too many wrong passwords")
 }
 
 /// Logs a line, without its passwords.

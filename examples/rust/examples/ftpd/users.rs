@@ -4,8 +4,7 @@ use pbkdf2::password_hash::{self, PasswordHash, PasswordHasher, PasswordVerifier
 use pbkdf2::{Params, Pbkdf2};
 use std::collections::HashMap;
 use std::path::Path;
-use std::{fs, io, thread};
-use tokio::sync::Semaphore;
+use std::{fs, io};
 use tokio::task::spawn_blocking;
 
 /// How often a password is hashed.
@@ -35,8 +34,6 @@ pub struct Users {
     anonymous: bool,
     /// What an unknown name's password is compared with, so that it takes as long as a wrong one.
     decoy: String,
-    /// So many passwords are hashed at a time, so that transfers go on beside them.
-    hashing: Semaphore,
 }
 
 impl Users {
@@ -56,19 +53,19 @@ impl Users {
             }
         }
         let decoy = users.values().next().map_or(NO_HASH, |user: &User| &user.hash).to_string();
-        let processors = thread::available_parallelism().map_or(1, |number| number.get());
-        Ok(Users { users, anonymous, decoy, hashing: Semaphore::new(processors) })
+        Ok(Users { users, anonymous, decoy })
+    }
+
+    /// What anybody may do who gives this name, where that takes no password.
+    pub fn rights_of_anybody(&self, name: &[u8]) -> Option<Rights> {
+        (self.anonymous && is_anonymous(name)).then_some(Rights::Read)
     }
 
     /// What the user of this name and password may do; `None` where there is none.
     pub async fn rights(&self, name: &[u8], password: &[u8]) -> Option<Rights> {
-        if self.anonymous && is_anonymous(name) {
-            return Some(Rights::Read);
-        }
         let user = std::str::from_utf8(name).ok().and_then(|name| self.users.get(name));
         let hash = user.map_or(&self.decoy, |user| &user.hash).clone();
         let password = password.to_vec();
-        let _permit = self.hashing.acquire().await.ok()?;
         let is_right = spawn_blocking(move || is_password(&password, &hash)).await.unwrap_or(false);
         user.filter(|_| is_right).map(|user| user.rights)
     }

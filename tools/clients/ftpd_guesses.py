@@ -1,0 +1,85 @@
+"""Guessed passwords at ftpd: checks of tools/clients/ftpd."""
+
+import contextlib
+import subprocess
+import threading
+import time
+
+from ftpd_server import OTHER_HOST, PASSWORD, PATIENCE, USER, Server, Wrong, until_logged, wants
+
+GUESSES = 140
+
+
+def guess(server, source, name=USER, count=1):
+    """Connects and guesses anew, so often, and returns the codes of the replies."""
+    codes = []
+    for _ in range(count):
+        with contextlib.suppress(OSError, Wrong), server.control(source) as control:
+            control.connection.settimeout(30)
+            control.wants(f"USER {name}", 331)
+            codes.append(control.ask("PASS wrong")[0])
+    return codes
+
+
+def beside_guesses(server):
+    """How long a right login takes beside connections of another address that guess."""
+    for _ in range(GUESSES):
+        threading.Thread(target=guess, args=(server, OTHER_HOST), daemon=True).start()
+    time.sleep(0.5)
+    begun = time.monotonic()
+    server.login().connection.close()
+    return time.monotonic() - begun
+
+
+def check_guessed_beside(program):
+    """Connections that guess don't keep a right login waiting, and never have all processors. Connecting anew doesn't help them."""
+    slow = subprocess.run([program, "--hash-password", "--rounds", "600000"], input=PASSWORD, capture_output=True, text=True, timeout=PATIENCE, check=True)
+    with Server(program) as server:
+        (server.place / "users").write_text(f"{USER}:{slow.stdout.strip()}\n", encoding="ascii")
+        server.reads_again(1)
+        begun = time.monotonic()
+        server.login().connection.close()
+        alone = time.monotonic() - begun
+        taken = beside_guesses(server)
+        wants(f"whether a login takes {taken:.1f} seconds beside {GUESSES} that guess, and {alone:.1f} alone", taken < 4 * alone + 2, True)
+
+
+def check_guesses_limited(program):
+    """So many wrong passwords of an address are looked at, and no more. Those of others are."""
+    with Server(program, "--wrong-per-address", 4) as server:
+        begun = time.monotonic()
+        wants("the replies", guess(server, OTHER_HOST, count=6), [530] * 4 + [421] * 2)
+        with server.control(OTHER_HOST) as control:
+            control.wants(f"USER {USER}", 331)
+            control.wants(f"PASS {PASSWORD}", 421)
+        wants("whether it took time", time.monotonic() - begun > 4, True)
+        until_logged(server, "login failed", 7)
+        server.login().connection.close()
+        server.login("ftp").connection.close()
+        server.reads_again(1)
+        with server.control(OTHER_HOST) as control:
+            control.wants("USER nobody", 331)
+            control.wants("PASS x", 421)
+
+
+def check_guesses_of_a_name(program):
+    """So many wrong passwords of a name are looked at, of all addresses. A right one is taken of an address that it came from before."""
+    with Server(program, "--wrong-per-name", 3) as server:
+        server.login().connection.close()
+        wants("the replies", [guess(server, f"127.0.1.{number}") for number in range(1, 6)], [[530]] * 3 + [[421]] * 2)
+        server.login().connection.close()
+        with server.control(OTHER_HOST) as control:
+            control.wants(f"USER {USER}", 331)
+            control.wants(f"PASS {PASSWORD}", 421)
+        wants("the reply for another name", guess(server, OTHER_HOST, "nobody"), [530])
+
+
+def check_delayed(program):
+    """The replies to further wrong passwords of an address take longer, also on new connections."""
+    with Server(program) as server:
+        taken = []
+        for _ in range(6):
+            begun = time.monotonic()
+            guess(server, OTHER_HOST)
+            taken.append(time.monotonic() - begun)
+        wants(f"whether {taken} grow", 0.9 < taken[0] < 1.9 and 1.9 < taken[5] < 6, True)
