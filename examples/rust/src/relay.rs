@@ -32,6 +32,7 @@ pub struct Limits {
 }
 
 /// What stands between clients and a server.
+#[derive(Clone)]
 pub struct Relay {
     /// The server, as `HOST:PORT`.
     pub server: String,

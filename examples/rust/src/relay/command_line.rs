@@ -13,11 +13,18 @@ use std::path::PathBuf;
 use std::sync::Arc;
 use std::time::Duration;
 use tokio::net::TcpListener;
-use tokio::sync::mpsc;
+use tokio::signal::unix::{signal, Signal, SignalKind};
+use tokio::sync::{mpsc, watch};
+use tokio_rustls::TlsAcceptor;
 use tracing::level_filters::LevelFilter;
 
 /// How long the sessions have to end where the program ends.
 const ENDING: Duration = Duration::from_secs(15);
+
+/// What signals do, for the help.
+const SIGNALS: &str = "\
+At SIGHUP the certificates and the key are read again, for sessions that begin after that. At SIGINT
+or SIGTERM each session ends once its replies have come, after 5 seconds at most.";
 
 /// The arguments of a relay, to which a program adds its own.
 pub fn command(name: &'static str, about: &'static str) -> Command {
@@ -37,6 +44,7 @@ pub fn command(name: &'static str, about: &'static str) -> Command {
                 .value_parser(value_parser!(SocketAddr))
                 .default_value("127.0.0.1:2121"),
         )
+        .after_help(SIGNALS)
         .arg(path("certificate", "PEM", "Certificates for TLS toward clients").requires("key"))
         .arg(path("key", "PEM", "The private key of the first certificate").requires("certificate"))
         .arg(
@@ -77,14 +85,37 @@ pub async fn run(
 ) -> io::Result<()> {
     let format = matches.get_one::<Format>("log-format").copied();
     let _end = log::start(LevelFilter::INFO, format.unwrap_or_default())?;
+    let file = |name| matches.get_one::<PathBuf>(name).cloned();
+    let files = file("certificate").zip(file("key"));
+    let relay = relay(matches, allowed, read_tls(files.as_ref())?, exchanges);
+    let number = |name| matches.get_one::<u32>(name).copied().unwrap_or_default();
+    let limits = listening::Limits {
+        connections: number("connections") as usize,
+        per_address: number("per-address") as usize,
+    };
+    let address = matches.get_one::<SocketAddr>("listen").copied();
+    let listener = TcpListener::bind(address.ok_or(io::ErrorKind::InvalidInput)?).await?;
+    let (newest, relay) = watch::channel(Arc::new(relay));
+    let reading = tokio::spawn(read_again(signal(SignalKind::hangup())?, files, newest));
+    writeln!(io::stdout(), "{}", listener.local_addr()?.port())?;
+    let session = |connected| relay.borrow().clone().session(connected);
+    let served = serve(vec![listener], limits, ENDING, session).await;
+    // with it goes the last sender of exchanges
+    reading.abort();
+    let _ = reading.await;
+    served
+}
+
+/// The relay of a command line.
+fn relay(
+    matches: &ArgMatches,
+    allowed: Allowed,
+    tls: Option<TlsAcceptor>,
+    exchanges: Option<mpsc::Sender<Exchange>>,
+) -> Relay {
     let number = |name| matches.get_one::<u32>(name).copied().unwrap_or_default();
     let seconds = |name| Duration::from_secs(number(name).into());
-    let file = |name| matches.get_one::<PathBuf>(name);
-    let tls = match (file("certificate"), file("key")) {
-        (Some(certificates), Some(key)) => Some(tls_acceptor(certificates, key)?),
-        _ => None,
-    };
-    let relay = Arc::new(Relay {
+    Relay {
         server: matches.get_one::<String>("server").cloned().unwrap_or_default(),
         allowed,
         tls,
@@ -94,14 +125,28 @@ pub async fn run(
             data: seconds("stall"),
         },
         exchanges,
-    });
-    let limits = listening::Limits {
-        connections: number("connections") as usize,
-        per_address: number("per-address") as usize,
-    };
-    let address = matches.get_one::<SocketAddr>("listen").copied();
-    let address = address.ok_or(io::ErrorKind::InvalidInput)?;
-    let listener = TcpListener::bind(address).await?;
-    writeln!(io::stdout(), "{}", listener.local_addr()?.port())?;
-    serve(vec![listener], limits, ENDING, |connected| relay.clone().session(connected)).await
+    }
+}
+
+fn read_tls(files: Option<&(PathBuf, PathBuf)>) -> io::Result<Option<TlsAcceptor>> {
+    files.map(|(certificates, key)| tls_acceptor(certificates, key)).transpose()
+}
+
+/// Reads the certificates again at each SIGHUP, for sessions that begin after that. Where a file is at
+/// fault, which is logged, what was read before stays.
+async fn read_again(
+    mut hangups: Signal,
+    files: Option<(PathBuf, PathBuf)>,
+    newest: watch::Sender<Arc<Relay>>,
+) {
+    while hangups.recv().await.is_some() {
+        let before = newest.borrow().clone();
+        match read_tls(files.as_ref()) {
+            Ok(tls) => {
+                newest.send_replace(Arc::new(Relay { tls, ..(*before).clone() }));
+                tracing::info!("read again, at SIGHUP");
+            }
+            Err(error) => tracing::error!("{error}; what was read before stays"),
+        }
+    }
 }
