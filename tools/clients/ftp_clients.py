@@ -510,7 +510,13 @@ class Clear(Choosing, ftplib.FTP):
 
 
 class Secure(Choosing, ftplib.FTP_TLS):
-    """With TLS."""
+    """With TLS. Its data connections resume the session of the control connection, as some servers ask for; those of the library don't."""
+
+    def ntransfercmd(self, cmd, rest=None):
+        data, size = ftplib.FTP.ntransfercmd(self, cmd, rest)
+        if self._prot_p:
+            data = self.context.wrap_socket(data, server_hostname=self.host, session=self.sock.session)
+        return data, size
 
 
 class Ftplib(Client):

@@ -181,5 +181,5 @@ def check_logged_handshakes(program):
             wants("the end of STOR", control.reply()[0], 425)
         until_logged(server, ": transfer ", 1)
         (_, fields), = entries(server, "transfer")
-        wants("its result", fields["result"], '"425 Can\'t open the data connection"')
+        wants("its result", fields["result"], '"425 No TLS, which has to resume the session of this connection"')
         wants("whether it says TLS", "TLS" in fields["error"], True)

@@ -1,8 +1,13 @@
 //! The certificates of a server and their private key, of two PEM files.
+use crate::tls::DataSession;
 use std::fs::File;
 use std::io::{self, BufReader, ErrorKind};
 use std::path::Path;
-use tokio_rustls::rustls::sign::{any_supported_type, SigningKey};
+use std::sync::Arc;
+use tokio_rustls::rustls::internal::msgs::enums::SignatureAlgorithm;
+use tokio_rustls::rustls::server::{ClientHello, ResolvesServerCert};
+use tokio_rustls::rustls::sign::{any_supported_type, CertifiedKey, Signer, SigningKey};
+use tokio_rustls::rustls::{self, version::TLS12, ALL_VERSIONS};
 use tokio_rustls::rustls::{Certificate, PrivateKey, ServerConfig, SignatureScheme};
 use tokio_rustls::webpki::{self, EndEntityCert};
 
@@ -17,13 +22,41 @@ static SCHEMES: [(SignatureScheme, &webpki::SignatureAlgorithm); 4] = [
     (SignatureScheme::ED25519, &webpki::ED25519),
 ];
 
-/// A server's side of TLS, with the certificates and the key of two PEM files.
+/// A certificate without its key. It proves nothing: a handshake only succeeds that resumes a session,
+/// for which a server has to sign nothing (RFC 5246, section 7.3; RFC 8446, section 2.2).
+pub(crate) struct Unproved(Arc<CertifiedKey>);
+
+impl ResolvesServerCert for Unproved {
+    fn resolve(&self, _: ClientHello) -> Option<Arc<CertifiedKey>> {
+        Some(self.0.clone())
+    }
+}
+
+/// The key in place of one of this kind.
+struct NoKey(SignatureAlgorithm);
+
+impl SigningKey for NoKey {
+    fn choose_scheme(&self, _: &[SignatureScheme]) -> Option<Box<dyn Signer>> {
+        None
+    }
+
+    fn algorithm(&self) -> SignatureAlgorithm {
+        self.0
+    }
+}
+
+/// A server's side of TLS, with the certificates and the key of two PEM files, in the versions in which
+/// data connections can have such sessions; and the certificates without the key.
 ///
 /// # Errors
 ///
 /// Where a file can't be read, or has no certificate or no private key; and where the key isn't that
 /// of the first certificate, with which no handshake would succeed.
-pub(crate) fn tls_config(certificates: &Path, key: &Path) -> io::Result<ServerConfig> {
+pub(crate) fn tls_config(
+    certificates: &Path,
+    key: &Path,
+    data: DataSession,
+) -> io::Result<(ServerConfig, Unproved)> {
     let chain = rustls_pemfile::certs(&mut BufReader::new(File::open(certificates)?))?;
     let first = chain.first().ok_or_else(|| invalid("no certificate"))?;
     let key = private_key(key)?;
@@ -32,11 +65,18 @@ pub(crate) fn tls_config(certificates: &Path, key: &Path) -> io::Result<ServerCo
     if !is_key_of(&*signing, first)? {
         return Err(invalid("the key is not that of the first certificate"));
     }
-    ServerConfig::builder()
-        .with_safe_defaults()
-        .with_no_client_auth()
-        .with_single_cert(chain.into_iter().map(Certificate).collect(), key)
-        .map_err(|error| invalid(&error.to_string()))
+    let chain: Vec<_> = chain.into_iter().map(Certificate).collect();
+    let no_key = Arc::new(NoKey(signing.algorithm()));
+    let unproved = Unproved(Arc::new(CertifiedKey::new(chain.clone(), no_key)));
+    let versions = match data {
+        DataSession::Resumed => &[&TLS12][..],
+        DataSession::Any => ALL_VERSIONS,
+    };
+    let config = ServerConfig::builder().with_safe_default_cipher_suites();
+    let config = config.with_safe_default_kx_groups().with_protocol_versions(versions);
+    let fault = |error: rustls::Error| invalid(&error.to_string());
+    let config = config.map_err(fault)?.with_no_client_auth().with_single_cert(chain, key);
+    Ok((config.map_err(fault)?, unproved))
 }
 
 /// The first private key of a PEM file.

@@ -11,3 +11,5 @@ pub mod log;
 pub mod relay;
 pub mod stream;
 pub mod telnet;
+pub mod tls;
+pub mod tls_sessions;

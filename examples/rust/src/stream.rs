@@ -1,15 +1,11 @@
 //! A connection in clear text or under TLS, on the server's end.
-use crate::certificate::tls_config;
 use std::io::{self, ErrorKind};
-use std::path::Path;
 use std::pin::Pin;
-use std::sync::Arc;
 use std::task::{ready, Context, Poll};
 use std::time::Duration;
 use tokio::io::{copy, sink, AsyncRead, AsyncWrite, AsyncWriteExt, ReadBuf};
 use tokio::net::TcpStream;
 use tokio::time::timeout;
-use tokio_rustls::rustls::server::{NoServerSessionStorage, StoresServerSessions};
 use tokio_rustls::server::TlsStream;
 use tokio_rustls::TlsAcceptor;
 
@@ -122,65 +118,5 @@ impl AsyncWrite for Stream {
             Stream::Clear(tcp) => Pin::new(tcp).poll_shutdown(cx),
             Stream::Tls(tls) => Pin::new(tls).poll_shutdown(cx),
         }
-    }
-}
-
-/// What accepts TLS with the certificates and the key of two PEM files.
-///
-/// # Errors
-///
-/// Where a file can't be read, or has no certificate or no private key; and where the key isn't that
-/// of the first certificate.
-pub fn tls_acceptor(certificates: &Path, key: &Path) -> io::Result<TlsAcceptor> {
-    let mut config = tls_config(certificates, key)?;
-    // A client that uploads never reads a session ticket. It closes over unread bytes, which resets
-    // the connection, and the end of the file may be lost.
-    config.session_storage = Arc::new(NoServerSessionStorage {});
-    Ok(TlsAcceptor::from(Arc::new(config)))
-}
-
-/// What accepts TLS on control connections and on their data connections.
-#[derive(Clone)]
-pub struct TlsAcceptors {
-    /// On control connections.
-    pub control: TlsAcceptor,
-    /// On data connections. They resume the sessions of control connections, as some clients ask
-    /// for, and send no tickets of their own, as [`tls_acceptor`].
-    pub data: TlsAcceptor,
-}
-
-impl TlsAcceptors {
-    /// With the certificates and the key of two PEM files.
-    ///
-    /// # Errors
-    ///
-    /// As those of [`tls_acceptor`].
-    pub fn read(certificates: &Path, key: &Path) -> io::Result<TlsAcceptors> {
-        let control = tls_config(certificates, key)?;
-        let mut data = control.clone();
-        data.session_storage = Arc::new(ControlSessions(control.session_storage.clone()));
-        Ok(TlsAcceptors { control: Arc::new(control).into(), data: Arc::new(data).into() })
-    }
-}
-
-/// The sessions of control connections, to which none is added. A session may be resumed by each
-/// data connection that comes from its control connection, and so isn't used up.
-struct ControlSessions(Arc<dyn StoresServerSessions>);
-
-impl StoresServerSessions for ControlSessions {
-    fn put(&self, _: Vec<u8>, _: Vec<u8>) -> bool {
-        false
-    }
-
-    fn get(&self, key: &[u8]) -> Option<Vec<u8>> {
-        self.0.get(key)
-    }
-
-    fn take(&self, key: &[u8]) -> Option<Vec<u8>> {
-        self.0.get(key)
-    }
-
-    fn can_cache(&self) -> bool {
-        false
     }
 }

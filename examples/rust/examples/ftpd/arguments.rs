@@ -10,6 +10,7 @@ use std::time::Duration;
 use tracing::level_filters::LevelFilter;
 use unftp_control_examples::listening::Limits;
 use unftp_control_examples::log::Format;
+use unftp_control_examples::tls::DataSession;
 
 /// Those of RFC 6335, section 6.
 const DYNAMIC_PORTS: RangeInclusive<u16> = 49152..=65535;
@@ -47,6 +48,8 @@ pub struct Settings {
     pub public_address: Option<Ipv4Addr>,
     /// The PEM files of the certificates and of their key.
     pub tls: Option<(PathBuf, PathBuf)>,
+    /// Which TLS sessions data connections may have.
+    pub data_session: DataSession,
     /// Whether names, passwords and files are only taken and sent under TLS.
     pub require_tls: bool,
     /// What happens with what came of an upload that is cut.
@@ -82,6 +85,7 @@ pub fn task() -> Task {
         passive_ports: matches.get_one("passive-ports").cloned().unwrap_or(DYNAMIC_PORTS),
         public_address: matches.get_one("public-address").copied(),
         tls: file("certificate").zip(file("key")),
+        data_session: data_session(&matches),
         require_tls: matches.get_flag("require-tls"),
         cut_uploads: matches.get_one("cut-uploads").copied().unwrap_or(Cut::Kept),
         limits: Limits {
@@ -163,7 +167,15 @@ fn users() -> [Arg; 4] {
     ]
 }
 
-fn encryption() -> [Arg; 3] {
+fn data_session(matches: &ArgMatches) -> DataSession {
+    if matches.get_flag("any-data-session") {
+        DataSession::Any
+    } else {
+        DataSession::Resumed
+    }
+}
+
+fn encryption() -> [Arg; 4] {
     [
         option("certificate", "PEM", "The certificates for TLS")
             .value_parser(value_parser!(PathBuf))
@@ -172,6 +184,10 @@ fn encryption() -> [Arg; 3] {
             .value_parser(value_parser!(PathBuf))
             .requires("certificate"),
         flag("require-tls", "No passwords and no files in clear text").requires("certificate"),
+        flag(
+            "any-data-session",
+            "Takes data connections that don't resume the TLS session of their control connection",
+        ),
     ]
 }
 

@@ -10,9 +10,9 @@ use std::time::Duration;
 use tokio::net::TcpStream;
 use tokio::time::timeout;
 use tokio_rustls::rustls::{self, ServerConnection};
-use tokio_rustls::TlsAcceptor;
 use unftp_control_examples::address::unmapped;
 use unftp_control_examples::connection::{accept, bound};
+use unftp_control_examples::tls::OfConnection;
 
 /// How many bytes of a client are dropped that it sends where it is to read.
 const UNREAD: u64 = 1 << 20;
@@ -121,10 +121,10 @@ impl DataStream {
     /// Under TLS, which begins within a time.
     pub async fn accept_tls(
         tcp: net::TcpStream,
-        acceptor: &TlsAcceptor,
+        tls: &OfConnection,
         patience: Duration,
     ) -> io::Result<DataStream> {
-        let accepting = acceptor.accept(TcpStream::from_std(tcp)?);
+        let accepting = tls.accept_data(TcpStream::from_std(tcp)?);
         let (tcp, tls) = timeout(patience, accepting).await??.into_inner();
         let tcp = Arc::new(tcp.into_std()?);
         Ok(DataStream { tcp, tls: Some(tls), is_hung_up: Arc::default() })

@@ -6,9 +6,10 @@ use crate::guesses::Guesses;
 use crate::users::{Rights, Users};
 use std::io;
 use std::net::IpAddr;
+use std::path::PathBuf;
 use std::sync::Arc;
 use std::time::Duration;
-use unftp_control_examples::stream::TlsAcceptors;
+use unftp_control_examples::tls::TlsAcceptors;
 
 /// What a session shares with others.
 pub struct Server {
@@ -87,8 +88,10 @@ fn read_users(settings: &Settings) -> io::Result<Arc<Users>> {
 
 fn read_tls(settings: &Settings) -> io::Result<Option<TlsAcceptors>> {
     let files = settings.tls.as_ref();
-    let tls = files.map(|(certificates, key)| TlsAcceptors::read(certificates, key)).transpose();
-    tls.map_err(|error| about("the certificate or its key", error))
+    let read = |(certificates, key): &(PathBuf, PathBuf)| {
+        TlsAcceptors::read(certificates, key, settings.data_session)
+    };
+    files.map(read).transpose().map_err(|error| about("the certificate or its key", error))
 }
 
 /// What was read, or else what was read before.

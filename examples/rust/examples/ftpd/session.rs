@@ -17,6 +17,7 @@ use unftp_control::{CodecError, Login, OwnedLine, Reply, ReplyCode as Code};
 use unftp_control_examples::address::unmapped;
 use unftp_control_examples::listening::{Connected, Stop};
 use unftp_control_examples::stream::Stream;
+use unftp_control_examples::tls::OfConnection;
 
 /// How long a client may take to log in.
 const LOGIN_TIME: Duration = Duration::from_secs(120);
@@ -55,6 +56,8 @@ pub struct Session {
     pub is_private: bool,
     /// Whether the control connection is under TLS.
     pub is_tls: bool,
+    /// What turns data connections to TLS, once the control connection is under TLS.
+    pub data_tls: Option<Arc<OfConnection>>,
     /// The facts of MLSD and MLST.
     pub facts: Vec<Fact>,
     wrong_passwords: u32,
@@ -121,12 +124,14 @@ async fn talk(server: Arc<Server>, connected: Connected) -> io::Result<()> {
             }
         };
         if let (None, Some(tls)) = (&end, &session.server.tls) {
+            let tls = tls.of_connection(session.ends.client);
             let turned = control.accept_tls(&tls.control).await;
             control = turned.map_err(|error| {
                 record::failed_handshake(&error);
                 error
             })?;
             session.is_tls = true;
+            session.data_tls = Some(Arc::new(tls));
         }
     }
 }
@@ -157,6 +162,7 @@ impl Session {
             has_pbsz: false,
             is_private: false,
             is_tls: false,
+            data_tls: None,
             facts: Fact::ALL.to_vec(),
             wrong_passwords: 0,
             stop,
@@ -228,6 +234,10 @@ impl Session {
 
     /// Begins anew for a user who has logged in.
     pub fn begin(&mut self, rights: Rights) {
+        let connection = self.data_tls.as_ref().and_then(|it| it.connection.as_ref());
+        if let (Some(connection), Some(name)) = (connection, self.login.name()) {
+            connection.belongs_to(name);
+        }
         self.rights = rights;
         self.directory = FilePath::default();
         self.representation = Representation::default();

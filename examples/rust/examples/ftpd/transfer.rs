@@ -17,8 +17,8 @@ use std::time::Duration;
 use tokio::sync::Notify;
 use tokio::task::spawn_blocking;
 use tokio::time::timeout;
-use tokio_rustls::TlsAcceptor;
 use unftp_control::{Reply, ReplyCode as Code};
+use unftp_control_examples::tls::OfConnection;
 
 /// How many bytes of a file are read or written at a time.
 const PART: usize = 256 * 1024;
@@ -65,8 +65,12 @@ impl Fault {
     /// The reply to the transfer.
     pub fn reply(&self) -> Reply {
         match self {
-            Fault::NoConnection(_) | Fault::Handshake(_) => {
+            Fault::NoConnection(_) => {
                 Reply::new(Code::CANT_OPEN_DATA_CONNECTION, "Can't open the data connection")
+            }
+            Fault::Handshake(_) => {
+                let text = "No TLS, which has to resume the session of this connection";
+                Reply::new(Code::CANT_OPEN_DATA_CONNECTION, text)
             }
             Fault::NoFile(error) => replies::of_error(error),
             Fault::Connection(error)
@@ -102,7 +106,7 @@ pub struct Transfer {
     /// The addresses of its ends.
     pub ends: Ends,
     /// What turns it to TLS, where it is to be private.
-    pub acceptor: Option<TlsAcceptor>,
+    pub tls: Option<Arc<OfConnection>>,
     /// How long it may take to open, and may then stand still.
     pub stall: Duration,
     /// How many bytes were sent or received.
@@ -147,8 +151,8 @@ impl Transfer {
         let port = mem::take(&mut self.port);
         let opened = timeout(self.stall, port.open(self.ends)).await;
         let tcp = opened.unwrap_or_else(|late| Err(late.into())).map_err(Fault::NoConnection)?;
-        let Some(acceptor) = &self.acceptor else { return Ok(DataStream::clear(tcp)) };
-        DataStream::accept_tls(tcp, acceptor, self.stall).await.map_err(Fault::Handshake)
+        let Some(tls) = &self.tls else { return Ok(DataStream::clear(tcp)) };
+        DataStream::accept_tls(tcp, tls, self.stall).await.map_err(Fault::Handshake)
     }
 }
 

@@ -115,11 +115,10 @@ impl Session {
 
     /// The transfer over the data connection that the last command has prepared.
     fn next_transfer(&mut self, count: Arc<AtomicU64>) -> Transfer {
-        let tls = self.server.tls.as_ref().filter(|_| self.is_private);
         Transfer {
             port: mem::take(&mut self.data_port),
             ends: self.ends,
-            acceptor: tls.map(|it| it.data.clone()),
+            tls: self.data_tls.clone().filter(|_| self.is_private),
             stall: self.server.settings.stall,
             count,
         }

@@ -4,7 +4,7 @@ use super::rules::Allowed;
 use super::{Limits, Relay};
 use crate::listening::{self, serve};
 use crate::log::{self, Format};
-use crate::stream::tls_acceptor;
+use crate::tls::tls_acceptor;
 use clap::builder::NonEmptyStringValueParser;
 use clap::{value_parser, Arg, ArgMatches, Command};
 use std::io::{self, Write};
