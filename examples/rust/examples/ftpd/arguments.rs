@@ -1,8 +1,11 @@
 //! What the command line says.
+use crate::config;
 use crate::guesses;
 use crate::upload::Cut;
 use crate::users::ROUNDS;
 use clap::{value_parser, Arg, ArgAction, ArgMatches, Command};
+use std::env;
+use std::io;
 use std::net::{Ipv4Addr, SocketAddr};
 use std::ops::RangeInclusive;
 use std::path::PathBuf;
@@ -30,6 +33,8 @@ pub enum Task {
     },
     /// Serve a folder.
     Serve(Box<Settings>),
+    /// Read all that serving a folder needs.
+    Check(Box<Settings>),
 }
 
 /// How a folder is served.
@@ -69,15 +74,39 @@ pub struct Settings {
     pub log_format: Format,
 }
 
-/// Reads the command line. Where it is wrong or asks for help, it prints that and ends the program.
-pub fn task() -> Task {
-    let matches = command().get_matches();
+/// Reads the command line, and the file that it names. Where the command line is wrong or asks for
+/// help, it prints that and ends the program.
+///
+/// # Errors
+///
+/// Where the file can't be read, or has what is no option.
+pub fn task() -> io::Result<Task> {
+    let matches = matches()?;
     if matches.get_flag("hash-password") {
-        return Task::HashPassword { rounds: number(&matches, "rounds") };
+        return Ok(Task::HashPassword { rounds: number(&matches, "rounds") });
     }
-    let seconds = |name| Duration::from_secs(number(&matches, name).into());
+    let settings = Box::new(settings(&matches));
+    Ok(if matches.get_flag("check") { Task::Check(settings) } else { Task::Serve(settings) })
+}
+
+/// What the command line says, and what the file says that it names.
+fn matches() -> io::Result<ArgMatches> {
+    let given = command().get_matches();
+    let Some(file) = given.get_one::<PathBuf>("config") else { return Ok(given) };
+    let mut words: Vec<_> = env::args_os().collect();
+    words.splice(1..1, config::words(&command(), &given, file)?);
+    let matches = command().get_matches_from(words);
+    if matches.get_one::<PathBuf>("FOLDER").is_none() {
+        let text = format!("{}: there is no folder, nor is a FOLDER given", file.display());
+        return Err(io::Error::new(io::ErrorKind::InvalidInput, text));
+    }
+    Ok(matches)
+}
+
+fn settings(matches: &ArgMatches) -> Settings {
+    let seconds = |name| Duration::from_secs(number(matches, name).into());
     let file = |name| matches.get_one::<PathBuf>(name).cloned();
-    Task::Serve(Box::new(Settings {
+    Settings {
         folder: file("FOLDER").unwrap_or_default(),
         listen: matches.get_many("listen").into_iter().flatten().copied().collect(),
         users: file("users"),
@@ -85,22 +114,22 @@ pub fn task() -> Task {
         passive_ports: matches.get_one("passive-ports").cloned().unwrap_or(DYNAMIC_PORTS),
         public_address: matches.get_one("public-address").copied(),
         tls: file("certificate").zip(file("key")),
-        data_session: data_session(&matches),
+        data_session: data_session(matches),
         require_tls: matches.get_flag("require-tls"),
         cut_uploads: matches.get_one("cut-uploads").copied().unwrap_or(Cut::Kept),
         limits: Limits {
-            connections: number(&matches, "connections") as usize,
-            per_address: number(&matches, "per-address") as usize,
+            connections: number(matches, "connections") as usize,
+            per_address: number(matches, "per-address") as usize,
         },
         guesses: guesses::Limits {
-            per_address: number(&matches, "wrong-per-address"),
-            per_name: number(&matches, "wrong-per-name"),
+            per_address: number(matches, "wrong-per-address"),
+            per_name: number(matches, "wrong-per-name"),
         },
         idle: seconds("idle"),
         stall: seconds("stall"),
         log: matches.get_one("log").copied().unwrap_or(LevelFilter::INFO),
         log_format: matches.get_one("log-format").copied().unwrap_or_default(),
-    }))
+    }
 }
 
 fn number(matches: &ArgMatches, name: &str) -> u32 {
@@ -116,9 +145,18 @@ fn command() -> Command {
         .arg(
             Arg::new("FOLDER")
                 .value_parser(value_parser!(PathBuf))
-                .required_unless_present("hash-password")
+                .required_unless_present_any(["hash-password", "config"])
                 .help("The folder that is served"),
         )
+        .arg(
+            option(
+                "config",
+                "FILE",
+                "TOML with the names of the options; those given here override it",
+            )
+            .value_parser(value_parser!(PathBuf)),
+        )
+        .arg(flag("check", "Reads the files of the options, and ends"))
         .args(listening())
         .args(users())
         .args(encryption())
@@ -157,7 +195,7 @@ fn listening() -> [Arg; 5] {
 
 fn users() -> [Arg; 4] {
     [
-        option("users", "FILE", "Users, one a line: NAME:HASH, or NAME:HASH:read to only read")
+        option("users", "FILE", "Users, one a line: NAME:HASH[:read|add|upload|write[:FOLDER]]")
             .value_parser(value_parser!(PathBuf)),
         flag("no-anonymous", "Only users may read"),
         flag("hash-password", "Reads a password from standard input and prints its hash"),

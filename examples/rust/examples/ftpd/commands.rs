@@ -106,9 +106,9 @@ impl Session {
     /// The answer to a password.
     fn logged_in(&mut self, name: &[u8], checked: Checked, reply: Reply) -> Answer {
         match checked {
-            Checked::Right(rights) => {
+            Checked::Right(account) => {
                 record::login(name);
-                self.begin(rights);
+                self.begin(account);
                 Answer::Reply(reply)
             }
             Checked::Wrong(delay) => {

@@ -11,6 +11,7 @@ use crate::transfer::{blocking, size, Start, Work};
 use crate::upload::Target;
 use crate::users::Rights;
 use rustix::fs::FileType;
+use rustix::io::Errno;
 use std::borrow::Cow;
 use std::io;
 use std::mem;
@@ -50,11 +51,17 @@ impl Session {
         Ok(())
     }
 
-    fn writes(&self) -> Result<(), Reply> {
-        match self.rights {
-            Rights::Write => Ok(()),
-            Rights::Read => Err(Reply::new(Code::FILE_ERROR, "You may only read")),
+    /// Refuses what the user may not do.
+    fn needs(&self, may: fn(Rights) -> bool) -> Result<(), Reply> {
+        if may(self.rights) {
+            return Ok(());
         }
+        let text = match self.rights {
+            Rights::Upload => "You may only add files",
+            Rights::Add => "You may change no files",
+            Rights::Read | Rights::Write => "You may only read",
+        };
+        Err(Reply::new(Code::FILE_ERROR, text))
     }
 
     /// Does something with what a client names, which may wait for a disk.
@@ -63,7 +70,7 @@ impl Session {
         named: &[u8],
         work: impl FnOnce(&Folder, &FilePath) -> io::Result<T> + Send + 'static,
     ) -> Result<T, Reply> {
-        let (folder, path) = (self.server.folder.clone(), self.directory.join(named));
+        let (folder, path) = (self.folder.clone(), self.directory.join(named));
         let done = blocking(move || work(&folder, &path)).await;
         done.map_err(|error| replies::of_error(&error))
     }
@@ -75,7 +82,7 @@ impl Session {
         named: &[u8],
         work: impl Fn(&Folder, &FilePath) -> io::Result<T> + Send + 'static,
     ) -> Result<T, Reply> {
-        match work(&self.server.folder.in_memory(), &self.directory.join(named)) {
+        match work(&self.folder.in_memory(), &self.directory.join(named)) {
             Ok(found) => Ok(found),
             Err(_) => self.in_folder(named, work).await,
         }
@@ -84,8 +91,9 @@ impl Session {
     /// What receives a file, and how many bytes it has. Where there is none, it is only made for a
     /// transfer that begins at its start.
     async fn target(&self, named: &[u8], offset: u64, new: New) -> Result<(Target, u64), Reply> {
-        let cut = self.server.settings.cut_uploads;
+        let (cut, may_change) = (self.server.settings.cut_uploads, self.rights.may_change());
         let target = move |folder: &Folder, path: &FilePath| match new {
+            _ if !may_change => Target::new(folder, path, cut),
             New::Written if offset == 0 => Target::whole(folder, path, cut),
             new => Target::rest(folder, path, offset, new, cut),
         };
@@ -98,7 +106,7 @@ impl Session {
         named: &[u8],
         work: impl FnOnce(&Folder, &FilePath) -> io::Result<T> + Send + 'static,
     ) -> Result<T, Reply> {
-        self.writes()?;
+        self.needs(Rights::may_change)?;
         self.in_folder(named, work).await
     }
 
@@ -110,6 +118,7 @@ impl Session {
 
     pub async fn retrieve(&mut self, named: &[u8]) -> Answered {
         let offset = mem::take(&mut self.offset);
+        self.needs(Rights::may_read)?;
         self.data_connection()?;
         let (file, facts) = self.look_up(named, Folder::read).await?;
         let (offset, representation) = (self.start(offset, size(&facts))?, self.representation);
@@ -121,7 +130,7 @@ impl Session {
     /// STOR after REST goes on with an upload that broke off.
     pub async fn store(&mut self, named: &[u8]) -> Answered {
         let offset = mem::take(&mut self.offset);
-        self.writes()?;
+        self.needs(Rights::may_add)?;
         self.data_connection()?;
         let (target, size) = self.target(named, offset, New::Written).await?;
         let start = Start::Offset(self.start(offset, size)?);
@@ -131,7 +140,7 @@ impl Session {
     /// APPE after REST is only taken where both mean the same.
     pub async fn append(&mut self, named: &[u8]) -> Answered {
         let offset = mem::take(&mut self.offset);
-        self.writes()?;
+        self.needs(Rights::may_add)?;
         self.data_connection()?;
         let (target, size) = self.target(named, offset, New::Appended).await?;
         if offset > 0 && offset != size {
@@ -143,12 +152,12 @@ impl Session {
     /// The reply names the file (RFC 1123, section 4.1.2.9).
     pub async fn store_unique(&mut self) -> Answered {
         self.offset = 0;
-        self.writes()?;
+        self.needs(Rights::may_add)?;
         self.data_connection()?;
         let path = self.in_folder(b"", Folder::choose).await?;
         let text = format!("FILE: {}", String::from_utf8_lossy(path.name().unwrap_or_default()));
         let cut = self.server.settings.cut_uploads;
-        let target = Target::Absent(self.server.folder.clone(), path, New::Unique, cut);
+        let target = Target::Absent(self.folder.clone(), path, New::Unique, cut);
         self.receive(target, Start::Offset(0), text)
     }
 
@@ -164,14 +173,17 @@ impl Session {
     }
 
     pub async fn list(&mut self, named: &[u8], form: Form) -> Answered {
+        let needs_directory = matches!(form, Form::Facts(_));
+        if !self.rights.may_read() {
+            let denied = Errno::ACCESS.into();
+            return Err(listing_fault(needs_directory, &denied));
+        }
         self.data_connection()?;
         let (directory, named, rights) = (self.directory.clone(), named.to_vec(), self.rights);
-        let needs_directory = matches!(form, Form::Facts(_));
-        let folder = self.server.folder.clone();
+        let folder = self.folder.clone();
         let listing = move || Listing::new(folder, (&directory, &named), form, rights);
         let listing = blocking(listing).await;
-        let fault = if needs_directory { replies::of_error } else { replies::of_listing_error };
-        let listing = listing.map_err(|error| fault(&error))?;
+        let listing = listing.map_err(|error| listing_fault(needs_directory, &error))?;
         if needs_directory && !listing.is_of_directory() {
             return refuse(Code::PARAMETER_SYNTAX_ERROR, "Not a directory");
         }
@@ -179,6 +191,7 @@ impl Session {
     }
 
     pub async fn show_facts(&mut self, named: &[u8]) -> Answered {
+        self.needs(Rights::may_read)?;
         let name = self.directory.join(named).text();
         let facts = self.look_up(named, Folder::facts).await?;
         let shown = fact_list(&self.facts, &facts, self.rights);
@@ -188,6 +201,7 @@ impl Session {
 
     /// In TYPE A a file has another size, which isn't known before it is sent.
     pub async fn size(&mut self, named: &[u8]) -> Answered {
+        self.needs(Rights::may_read)?;
         if self.representation == Representation::Ascii {
             return refuse(Code::FILE_ERROR, "Only in TYPE I");
         }
@@ -199,6 +213,7 @@ impl Session {
     }
 
     pub async fn modified(&mut self, named: &[u8]) -> Answered {
+        self.needs(Rights::may_read)?;
         let facts = self.look_up(named, Folder::facts).await?;
         match time_value(&facts) {
             Some(time) => reply(Code::FILE_STATUS, time),
@@ -242,7 +257,8 @@ impl Session {
     }
 
     pub async fn make_directory(&mut self, named: &[u8]) -> Answered {
-        self.change(named, Folder::make_directory).await?;
+        self.needs(Rights::may_add)?;
+        self.in_folder(named, Folder::make_directory).await?;
         reply(Code::DIR_CREATED, self.directory.join(named).quoted())
     }
 
@@ -266,6 +282,15 @@ fn parsed_mode(digits: &[u8]) -> Option<u32> {
     // from_str_radix would also take a plus sign
     let digits = std::str::from_utf8(digits).ok().filter(|it| !it.starts_with('+'))?;
     u32::from_str_radix(digits, 8).ok().filter(|mode| *mode <= 0o777)
+}
+
+/// The reply to a listing that a fault ends.
+fn listing_fault(needs_directory: bool, error: &io::Error) -> Reply {
+    if needs_directory {
+        replies::of_error(error)
+    } else {
+        replies::of_listing_error(error)
+    }
 }
 
 fn opening(text: impl Into<Cow<'static, str>>) -> Reply {

@@ -87,8 +87,11 @@ fn fact_type(facts: &Stat) -> &'static str {
 fn permissions(is_directory: bool, rights: Rights) -> &'static str {
     match (is_directory, rights) {
         (true, Rights::Read) => "el",
+        (true, Rights::Add) => "celm",
+        (true, Rights::Upload) => "cem",
         (true, Rights::Write) => "cdeflmp",
-        (false, Rights::Read) => "r",
+        (false, Rights::Read | Rights::Add) => "r",
+        (false, Rights::Upload) => "",
         (false, Rights::Write) => "adfrw",
     }
 }

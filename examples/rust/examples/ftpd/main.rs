@@ -15,6 +15,7 @@
 //! `set ssl:use-sni no` there, or name the server.
 mod arguments;
 mod commands;
+mod config;
 mod control;
 mod data;
 mod devices;
@@ -58,10 +59,11 @@ const GRACE: Duration = Duration::from_secs(10);
 const CLOSING: Duration = Duration::from_secs(6);
 
 fn main() -> ExitCode {
-    let done = match arguments::task() {
+    let done = arguments::task().and_then(|task| match task {
         Task::HashPassword { rounds } => print_hash(rounds),
+        Task::Check(settings) => Server::read(*settings).map(drop),
         Task::Serve(settings) => start(*settings),
-    };
+    });
     match done {
         Ok(()) => ExitCode::SUCCESS,
         Err(error) => {

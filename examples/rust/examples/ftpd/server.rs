@@ -3,7 +3,7 @@ use crate::about;
 use crate::arguments::Settings;
 use crate::folder::Folder;
 use crate::guesses::Guesses;
-use crate::users::{Rights, Users};
+use crate::users::{Account, Users};
 use std::io;
 use std::net::IpAddr;
 use std::path::PathBuf;
@@ -27,8 +27,8 @@ pub struct Server {
 
 /// What a password is.
 pub enum Checked {
-    /// That of a user who may do this.
-    Right(Rights),
+    /// That of a user who has this.
+    Right(Account),
     /// Wrong. Its reply is to take so long.
     Wrong(Duration),
     /// Not looked at, since too many were wrong before.
@@ -38,18 +38,18 @@ pub enum Checked {
 impl Server {
     /// Looks at the password of a name that comes from an address.
     pub async fn check(&self, name: &[u8], password: &[u8], from: IpAddr) -> Checked {
-        if let Some(rights) = self.users.rights_of_anybody(name) {
-            return Checked::Right(rights);
+        if let Some(account) = self.users.account_of_anybody(name) {
+            return Checked::Right(account);
         }
         let _turn = self.guesses.turn(from).await;
         // others may have been wrong meanwhile
         if self.guesses.refuses(name, from) {
             return Checked::Unseen;
         }
-        match self.users.rights(name, password).await {
-            Some(rights) => {
+        match self.users.account(name, password).await {
+            Some(account) => {
                 self.guesses.right(name, from);
-                Checked::Right(rights)
+                Checked::Right(account)
             }
             None => Checked::Wrong(self.guesses.wrong(name, from)),
         }
@@ -82,7 +82,8 @@ impl Server {
 }
 
 fn read_users(settings: &Settings) -> io::Result<Arc<Users>> {
-    let users = Users::read(settings.users.as_deref(), settings.anonymous);
+    let file = settings.users.as_deref();
+    let users = Users::read(file, settings.anonymous, &settings.folder);
     users.map(Arc::new).map_err(|error| about("the users", error))
 }
 

@@ -2,12 +2,12 @@
 use crate::commands::Answer;
 use crate::control::Control;
 use crate::data::{DataPort, Ends};
-use crate::folder::FilePath;
+use crate::folder::{FilePath, Folder};
 use crate::listing::Fact;
 use crate::record::{self, Action, Outcome};
 use crate::representation::Representation;
 use crate::server::Server;
-use crate::users::Rights;
+use crate::users::{Account, Rights};
 use std::io;
 use std::sync::Arc;
 use std::time::Duration;
@@ -38,6 +38,8 @@ pub struct Session {
     pub login: Login,
     /// What the user may do, once one has logged in.
     pub rights: Rights,
+    /// The folder that is served.
+    pub folder: Folder,
     /// The working directory.
     pub directory: FilePath,
     /// That of TYPE.
@@ -148,11 +150,13 @@ async fn unavailable(mut control: Control, text: &'static str) -> io::Result<()>
 
 impl Session {
     fn new(server: Arc<Server>, ends: Ends, stop: Stop) -> Session {
+        let folder = server.folder.clone();
         Session {
             server,
             ends,
             login: Login::new(),
             rights: Rights::Read,
+            folder,
             directory: FilePath::default(),
             representation: Representation::default(),
             offset: 0,
@@ -233,12 +237,13 @@ impl Session {
     }
 
     /// Begins anew for a user who has logged in.
-    pub fn begin(&mut self, rights: Rights) {
+    pub fn begin(&mut self, account: Account) {
         let connection = self.data_tls.as_ref().and_then(|it| it.connection.as_ref());
         if let (Some(connection), Some(name)) = (connection, self.login.name()) {
             connection.belongs_to(name);
         }
-        self.rights = rights;
+        self.rights = account.rights;
+        self.folder = account.folder.unwrap_or_else(|| self.server.folder.clone());
         self.directory = FilePath::default();
         self.representation = Representation::default();
         self.offset = 0;

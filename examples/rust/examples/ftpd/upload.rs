@@ -34,6 +34,8 @@ pub enum Target {
     Absent(Folder, FilePath, New, Cut),
     /// One that is written beside, and what it replaces, which is open and locked.
     Beside(Folder, FilePath, Option<File>, Cut),
+    /// One that is written beside, and replaces nothing.
+    New(Folder, FilePath, Cut),
 }
 
 impl Target {
@@ -54,6 +56,17 @@ impl Target {
                 lock(&file, FlockOperation::NonBlockingLockExclusive)?;
                 Ok((Target::Open(file), size(&facts)))
             }
+        }
+    }
+
+    /// That of a file where there is none.
+    pub fn new(folder: &Folder, path: &FilePath, cut: Cut) -> io::Result<(Target, u64)> {
+        match folder.has_entry(path) {
+            Err(error) if error.kind() == io::ErrorKind::NotFound => {
+                folder.may_create(path)?;
+                Ok((Target::New(folder.clone(), path.clone(), cut), 0))
+            }
+            found => found.and(Err(Errno::EXIST.into())),
         }
     }
 
@@ -84,6 +97,7 @@ impl Target {
         match self {
             Target::Open(_) => None,
             Target::Absent(_, path, ..) | Target::Beside(_, path, ..) => Some(path),
+            Target::New(_, path, _) => Some(path),
         }
     }
 
@@ -100,6 +114,11 @@ impl Target {
             }
             Target::Beside(folder, path, replaced, cut) => {
                 let (entry, file) = Entry::beside(&folder, &path, replaced)?;
+                Ok(Upload { file, entry: Some(entry), cut })
+            }
+            Target::New(folder, path, cut) => {
+                let (mut entry, file) = Entry::beside(&folder, &path, None)?;
+                entry.replaces = false;
                 Ok(Upload { file, entry: Some(entry), cut })
             }
         }
@@ -137,6 +156,8 @@ struct Entry {
     to: Option<OsString>,
     /// What it replaces, which stays locked meanwhile.
     _replaced: Option<File>,
+    /// Whether it takes the place of what has its name then.
+    replaces: bool,
     is_kept: bool,
 }
 
@@ -144,7 +165,8 @@ impl Entry {
     /// That of a new file, which has its name already.
     fn own(folder: &Folder, path: &FilePath) -> io::Result<Entry> {
         let (directory, name) = folder.parent(path)?;
-        Ok(Entry { directory, name: name.into(), to: None, _replaced: None, is_kept: false })
+        let name = name.into();
+        Ok(Entry { directory, name, to: None, _replaced: None, replaces: false, is_kept: false })
     }
 
     /// A new file with a name of its own beside that of a path, and with the mode of what it replaces.
@@ -160,7 +182,8 @@ impl Entry {
         let file = fs::openat(&directory, &name, flags, Mode::from_raw_mode(0o666))?;
         let file = File::from(rustix::fd::OwnedFd::from(file));
         let to = Some(to.to_owned());
-        let mut entry = Entry { directory, name, to, _replaced: None, is_kept: false };
+        let mut entry =
+            Entry { directory, name, to, _replaced: None, replaces: true, is_kept: false };
         if let Some(replaced) = &replaced {
             let facts = fs::fstat(replaced)?;
             if facts.st_gid != fs::fstat(&file)?.st_gid {
@@ -175,6 +198,11 @@ impl Entry {
 
     /// Gives the file its name, unless what has it now is written in place.
     fn keep(mut self) -> io::Result<()> {
+        if let Some(to) = self.to.as_ref().filter(|_| !self.replaces) {
+            // what it has from now on is removed by the name that is dropped
+            fs::linkat(&self.directory, &self.name, &self.directory, to, AtFlags::empty())?;
+            return Ok(());
+        }
         if let Some(to) = &self.to {
             let flags = OFlags::WRONLY | OFlags::NOFOLLOW | OFlags::NONBLOCK | OFlags::CLOEXEC;
             // a file that was made meanwhile is replaced too

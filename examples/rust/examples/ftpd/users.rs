@@ -1,4 +1,5 @@
 //! Who may log in. A file has the hashes of the users' passwords.
+use crate::folder::Folder;
 use pbkdf2::password_hash::rand_core::OsRng;
 use pbkdf2::password_hash::{self, PasswordHash, PasswordHasher, PasswordVerifier, SaltString};
 use pbkdf2::{Params, Pbkdf2};
@@ -19,13 +20,53 @@ const NO_HASH: &str = "$pbkdf2-sha256$i=600000,l=32$AAAAAAAAAAAAAAAAAAAAAA\
 pub enum Rights {
     /// Read files.
     Read,
+    /// Read files, and add new ones.
+    Add,
+    /// Only add new files, and read none.
+    Upload,
     /// Read files, and write, rename and delete them.
     Write,
 }
 
+impl Rights {
+    fn named(name: &str) -> Option<Rights> {
+        match name {
+            "read" => Some(Rights::Read),
+            "add" => Some(Rights::Add),
+            "upload" => Some(Rights::Upload),
+            "write" => Some(Rights::Write),
+            _ => None,
+        }
+    }
+
+    /// Whether the user may read and list files.
+    pub fn may_read(self) -> bool {
+        self != Rights::Upload
+    }
+
+    /// Whether the user may make files and directories.
+    pub fn may_add(self) -> bool {
+        self != Rights::Read
+    }
+
+    /// Whether the user may change what is there.
+    pub fn may_change(self) -> bool {
+        self == Rights::Write
+    }
+}
+
+/// What a user has.
+#[derive(Clone)]
+pub struct Account {
+    /// What the user may do.
+    pub rights: Rights,
+    /// The user's own folder, in place of that of all.
+    pub folder: Option<Folder>,
+}
+
 struct User {
     hash: String,
-    rights: Rights,
+    account: Account,
 }
 
 /// The users, and whether anybody may read.
@@ -37,17 +78,17 @@ pub struct Users {
 }
 
 impl Users {
-    /// Reads the file of the users.
+    /// Reads the file of the users, whose own folders are named from that of all.
     ///
     /// # Errors
     ///
     /// Where the file can't be read, or a line of it is no user or one that could never log in.
-    pub fn read(file: Option<&Path>, anonymous: bool) -> io::Result<Users> {
+    pub fn read(file: Option<&Path>, anonymous: bool, folder: &Path) -> io::Result<Users> {
         let text = file.map_or(Ok(String::new()), fs::read_to_string)?;
         let mut users = HashMap::new();
         for (line, number) in text.lines().zip(1..) {
             if !line.is_empty() && !line.starts_with('#') {
-                add_user(&mut users, line, anonymous).map_err(|fault| {
+                add_user(&mut users, line, anonymous, folder).map_err(|fault| {
                     io::Error::new(io::ErrorKind::InvalidData, format!("line {number} {fault}"))
                 })?;
             }
@@ -57,17 +98,18 @@ impl Users {
     }
 
     /// What anybody may do who gives this name, where that takes no password.
-    pub fn rights_of_anybody(&self, name: &[u8]) -> Option<Rights> {
-        (self.anonymous && is_anonymous(name)).then_some(Rights::Read)
+    pub fn account_of_anybody(&self, name: &[u8]) -> Option<Account> {
+        let account = Account { rights: Rights::Read, folder: None };
+        (self.anonymous && is_anonymous(name)).then_some(account)
     }
 
-    /// What the user of this name and password may do; `None` where there is none.
-    pub async fn rights(&self, name: &[u8], password: &[u8]) -> Option<Rights> {
+    /// What the user of this name and password has; `None` where there is none.
+    pub async fn account(&self, name: &[u8], password: &[u8]) -> Option<Account> {
         let user = std::str::from_utf8(name).ok().and_then(|name| self.users.get(name));
         let hash = user.map_or(&self.decoy, |user| &user.hash).clone();
         let password = password.to_vec();
         let is_right = spawn_blocking(move || is_password(&password, &hash)).await.unwrap_or(false);
-        user.filter(|_| is_right).map(|user| user.rights)
+        user.filter(|_| is_right).map(|user| user.account.clone())
     }
 }
 
@@ -76,11 +118,13 @@ fn add_user(
     users: &mut HashMap<String, User>,
     line: &str,
     anonymous: bool,
+    all: &Path,
 ) -> Result<(), &'static str> {
-    let (name, hash, rights) = match line.split(':').collect::<Vec<_>>()[..] {
-        [name, hash] => (name, hash, Rights::Write),
-        [name, hash, "read"] => (name, hash, Rights::Read),
-        _ => return Err("is neither NAME:HASH nor NAME:HASH:read"),
+    let (name, hash, rights, folder) = match line.splitn(4, ':').collect::<Vec<_>>()[..] {
+        [name, hash] => (name, hash, "write", None),
+        [name, hash, rights] => (name, hash, rights, None),
+        [name, hash, rights, folder] => (name, hash, rights, Some(folder)),
+        _ => return Err("is none of NAME:HASH, NAME:HASH:RIGHTS and NAME:HASH:RIGHTS:FOLDER"),
     };
     if name.is_empty() {
         return Err("has no name");
@@ -91,11 +135,20 @@ fn add_user(
     if !is_hash(hash) {
         return Err("has no hash as --hash-password prints it");
     }
-    let user = User { hash: hash.to_string(), rights };
+    let rights =
+        Rights::named(rights).ok_or("has other rights than read, add, upload and write")?;
+    let folder = folder.map(|name| own_folder(all, name)).transpose()?;
+    let user = User { hash: hash.to_string(), account: Account { rights, folder } };
     match users.insert(name.to_string(), user) {
         Some(_) => Err("has the name of another line"),
         None => Ok(()),
     }
+}
+
+/// A user's own folder, named from that of all.
+fn own_folder(all: &Path, name: &str) -> Result<Folder, &'static str> {
+    let opened = Folder::open(&all.join(name)).ok().filter(|_| !name.is_empty());
+    opened.ok_or("has a folder that can't be opened")
 }
 
 /// Whether this is a name by which anybody may read.
