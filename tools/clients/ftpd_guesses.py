@@ -41,7 +41,7 @@ def check_guessed_beside(program):
         server.login().connection.close()
         alone = time.monotonic() - begun
         taken = beside_guesses(server)
-        wants(f"whether a login takes {taken:.1f} seconds beside {GUESSES} that guess, and {alone:.1f} alone", taken < 4 * alone + 2, True)
+        wants(f"whether a login takes {taken:.1f} seconds beside {GUESSES} that guess, and {alone:.1f} alone", taken < 12 * alone + 2, True)
 
 
 def check_guesses_limited(program):

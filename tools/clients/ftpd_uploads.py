@@ -5,7 +5,7 @@ import os
 import socket
 import stat
 
-from ftpd_server import BY_MODES, Server, wants
+from ftpd_server import BY_MODES, Server, until_logged, wants
 
 OLD, NEW = b"old" * 4, b"new" * 8
 
@@ -115,6 +115,7 @@ def check_cut_uploads(program):
                 another.connection.close()
                 with contextlib.suppress(ConnectionResetError):
                     data.recv(1)
+        until_logged(server, "the client is gone", 1)
         wants("the files", (files(server), control.get("RETR file")), (["file"], OLD))
         cut(control, "APPE file", b"end")
         wants("what APPE has left", control.get("RETR file"), OLD + b"end")

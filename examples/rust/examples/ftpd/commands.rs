@@ -49,8 +49,8 @@ const VERBS: [&str; 5] = [
     "ABOR ACCT ALLO APPE AUTH CDUP CWD DELE EPRT EPSV",
     "FEAT HELP LIST MDTM MFMT MKD MLSD MLST MODE",
     "NLST NOOP OPTS PASS PASV PBSZ PORT PROT PWD QUIT",
-    "REST RETR RMD RNFR RNTO SITE SIZE STAT STOR STOU",
-    "STRU SYST TYPE USER",
+    "REIN REST RETR RMD RNFR RNTO SITE SIZE STAT STOR",
+    "STOU STRU SYST TYPE USER",
 ];
 
 impl Session {
@@ -130,7 +130,8 @@ impl Session {
             Command::Syst => reply(Code::SYSTEM_TYPE, "UNIX Type: L8"),
             Command::Feat => Ok(Answer::Reply(self.features())),
             Command::Help => Ok(Answer::Reply(help())),
-            Command::Stat { path } => self.status(path.as_deref()),
+            Command::Stat { path: None } => Ok(Answer::Reply(self.status())),
+            Command::Stat { path: Some(path) } => self.status_of(path).await,
             Command::Acct { .. } => {
                 reply(Code::COMMAND_OKAY_NOT_IMPLEMENTED, "No account is needed")
             }
@@ -186,6 +187,9 @@ impl Session {
             Command::Mkd { path } => self.make_directory(&named(path, line)).await,
             Command::Rnfr { file } => self.rename_from(&named(file, line)).await,
             Command::Site { command, .. } if command == "CHMOD" => self.set_mode(line).await,
+            Command::Site { command, .. } if command == "HELP" => {
+                reply(Code::HELP_MESSAGE, "SITE CHMOD MODE PATH, SITE HELP")
+            }
             Command::Site { .. } | Command::Md5 { .. } => {
                 refuse(Code::COMMAND_NOT_IMPLEMENTED_FOR_PARAMETER, "Only SITE CHMOD")
             }
@@ -201,6 +205,7 @@ impl Session {
         match verb {
             "EPRT" => self.extended_port(words),
             "MFMT" => self.set_modified(line).await,
+            "REIN" if words.is_empty() => self.reinitialize(),
             "XCUP" => self.change_directory(b"..").await,
             "XRMD" if !words.is_empty() => self.remove_directory(&named(words, line)).await,
             _ => refuse(Code::COMMAND_SYNTAX_ERROR, "Unknown command"),
@@ -243,11 +248,7 @@ impl Session {
         Reply::with_lines(Code::SYSTEM_STATUS, lines)
     }
 
-    fn status(&self, path: Option<&[u8]>) -> Answered {
-        if path.is_some() {
-            let text = "STAT takes no path: use MLST or LIST";
-            return refuse(Code::COMMAND_NOT_IMPLEMENTED_FOR_PARAMETER, text);
-        }
+    fn status(&self) -> Reply {
         let name = self.login.name().unwrap_or_default().escape_ascii();
         let protection = match (self.is_tls, self.is_private) {
             (true, true) => "TLS",
@@ -261,7 +262,7 @@ impl Session {
             format!(" Over {protection}"),
             "End".to_string(),
         ];
-        Ok(Answer::Reply(Reply::with_lines(Code::SYSTEM_STATUS, lines)))
+        Reply::with_lines(Code::SYSTEM_STATUS, lines)
     }
 
     /// ABOR after a transfer, or without one.

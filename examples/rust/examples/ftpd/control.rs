@@ -15,7 +15,7 @@ use unftp_control_examples::telnet::Telnet;
 /// How many bytes are read at a time.
 const READ: usize = 2048;
 /// How many lines may wait for the end of a transfer.
-const WAITING: usize = 64;
+const WAITING: usize = 1000;
 /// How many lines of a client are taken before others have their turn: the runtime looks at no socket
 /// while a task runs, and a client may send lines as fast as they are answered.
 const TURN: usize = 128;

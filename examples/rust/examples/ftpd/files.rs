@@ -190,6 +190,26 @@ impl Session {
         Ok(Answer::Transfer(opening("Here comes the listing"), Work::List(Box::new(listing))))
     }
 
+    /// STAT of a path: a listing as that of LIST, in the reply.
+    pub async fn status_of(&mut self, named: &[u8]) -> Answered {
+        self.needs(Rights::may_read)?;
+        let (directory, rights) = (self.directory.clone(), self.rights);
+        let (folder, named) = (self.folder.clone(), named.to_vec());
+        let listed = blocking(move || {
+            let mut listing = Listing::new(folder, (&directory, &named), Form::Long, rights)?;
+            let mut text = Vec::new();
+            listing.next_part(&mut text)?;
+            Ok((listing.is_of_directory(), text))
+        });
+        let listed = listed.await.map_err(|error| replies::of_listing_error(&error));
+        let (is_of_directory, text) = listed?;
+        let code = if is_of_directory { Code::DIRECTORY_STATUS } else { Code::FILE_STATUS };
+        let text = String::from_utf8_lossy(&text);
+        let entries = text.split_terminator("\r\n").map(|line| format!(" {line}"));
+        let lines = ["Status:".to_string()].into_iter().chain(entries);
+        Ok(Answer::Reply(Reply::with_lines(code, lines.chain(["End".to_string()]))))
+    }
+
     pub async fn show_facts(&mut self, named: &[u8]) -> Answered {
         self.needs(Rights::may_read)?;
         let name = self.directory.join(named).text();

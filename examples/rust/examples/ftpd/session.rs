@@ -1,5 +1,5 @@
 //! A session: a client's lines are answered in turn, and beside a transfer only ABOR and STAT are.
-use crate::commands::Answer;
+use crate::commands::{refuse, reply, Answer, Answered};
 use crate::control::Control;
 use crate::data::{DataPort, Ends};
 use crate::folder::{FilePath, Folder};
@@ -13,7 +13,7 @@ use std::sync::Arc;
 use std::time::Duration;
 use tokio::time::{sleep, timeout_at, Instant};
 use tracing::{info_span, Instrument, Level};
-use unftp_control::{CodecError, Login, OwnedLine, Reply, ReplyCode as Code};
+use unftp_control::{CodecError, Command, Event, Login, OwnedLine, Reply, ReplyCode as Code};
 use unftp_control_examples::address::unmapped;
 use unftp_control_examples::listening::{Connected, Stop};
 use unftp_control_examples::stream::Stream;
@@ -21,6 +21,8 @@ use unftp_control_examples::tls::OfConnection;
 
 /// How long a client may take to log in.
 const LOGIN_TIME: Duration = Duration::from_secs(120);
+/// How many lines may be no command before a login.
+const UNKNOWN_LINES: u32 = 10;
 /// How many passwords of a session may be wrong.
 const WRONG_PASSWORDS: u32 = 3;
 /// How long the reply takes to a password that is not looked at.
@@ -63,6 +65,8 @@ pub struct Session {
     /// The facts of MLSD and MLST.
     pub facts: Vec<Fact>,
     wrong_passwords: u32,
+    /// How many lines before a login were no command.
+    unknown_lines: u32,
     /// When the program is to end.
     pub stop: Stop,
     /// The end of the time for the login.
@@ -169,6 +173,7 @@ impl Session {
             data_tls: None,
             facts: Fact::ALL.to_vec(),
             wrong_passwords: 0,
+            unknown_lines: 0,
             stop,
             deadline: Instant::now() + LOGIN_TIME,
         }
@@ -180,6 +185,9 @@ impl Session {
             let line = self.line(control).await?;
             log(&line);
             let action = Action::of(&line, self);
+            if self.is_foreign(&line) {
+                return Err(End::Unavailable("This is FTP"));
+            }
             match self.answer(&line).await {
                 Answer::Reply(reply) => {
                     if let Some(action) = action {
@@ -234,6 +242,33 @@ impl Session {
             self.deadline = Instant::now() + LOGIN_TIME;
         }
         Ok(line)
+    }
+
+    /// REIN: begins anew without a user (RFC 959, section 4.1.1). The connection stays as it is, so that
+    /// none of a user's goes on without TLS (RFC 4217, section 11).
+    pub fn reinitialize(&mut self) -> Answered {
+        if self.is_tls {
+            return refuse(Code::COMMAND_NOT_IMPLEMENTED, "Under TLS there is no REIN");
+        }
+        self.login = Login::new();
+        self.deadline = Instant::now() + LOGIN_TIME;
+        self.facts = Fact::ALL.to_vec();
+        self.only_epsv = false;
+        let nobody = Account { rights: Rights::Read, folder: None };
+        self.begin(nobody);
+        reply(Code::SERVICE_READY, "Ready")
+    }
+
+    /// Whether a client that has not logged in is none of FTP: it speaks HTTP, as a browser that is
+    /// sent here does with the lines of somebody else, or has sent too many lines that are no command.
+    fn is_foreign(&mut self, line: &OwnedLine) -> bool {
+        let is_unknown =
+            matches!(line.event, Event::Refused(_) | Event::Command(Command::Other { .. }));
+        if self.login.name().is_some() || !is_unknown {
+            return false;
+        }
+        self.unknown_lines += 1;
+        self.unknown_lines > UNKNOWN_LINES || line.bytes.windows(6).any(|part| part == b"HTTP/1")
     }
 
     /// Begins anew for a user who has logged in.

@@ -13,7 +13,7 @@ use std::io::{self, ErrorKind, IoSliceMut, Read, Seek, SeekFrom, Write};
 use std::mem;
 use std::sync::atomic::{AtomicU64, Ordering};
 use std::sync::Arc;
-use std::time::Duration;
+use std::time::{Duration, Instant};
 use tokio::sync::Notify;
 use tokio::task::spawn_blocking;
 use tokio::time::timeout;
@@ -22,6 +22,9 @@ use unftp_control_examples::tls::OfConnection;
 
 /// How many bytes of a file are read or written at a time.
 const PART: usize = 256 * 1024;
+/// So many bytes have to come of an upload in so many times in which it may stand still.
+const LEAST: usize = 1024;
+const STALLS: u32 = 5;
 /// A file of no more bytes is sent at once: a new connection takes so many without a wait.
 const SMALL: u64 = 16 * 1024;
 
@@ -132,7 +135,7 @@ impl Transfer {
                 return Err(fault);
             }
         };
-        let mut transfer = OpenTransfer { stream, count: self.count };
+        let mut transfer = OpenTransfer { stream, count: self.count, stall: self.stall };
         let Some(work) = transfer.send_at_once(work)? else { return Ok(()) };
         transfer.stream.wait_at_most(self.stall).map_err(Fault::Connection)?;
         let hang_up = transfer.stream.hang_up();
@@ -184,6 +187,7 @@ impl Work {
 struct OpenTransfer {
     stream: DataStream,
     count: Arc<AtomicU64>,
+    stall: Duration,
 }
 
 impl OpenTransfer {
@@ -310,9 +314,10 @@ impl OpenTransfer {
         }
     }
 
-    /// Writes what comes, up to its end.
+    /// Writes what comes, up to its end. A client that only sends a byte now and then stands still.
     fn fill(&mut self, sink: &mut Sink) -> Result<(), Fault> {
         let mut part = vec![0; PART];
+        let (mut begun, mut received) = (Instant::now(), 0);
         loop {
             let count = match self.stream.read(&mut part) {
                 Err(error) if error.kind() == ErrorKind::Interrupted => continue,
@@ -320,6 +325,13 @@ impl OpenTransfer {
             };
             if count == 0 {
                 return Ok(());
+            }
+            received += count;
+            if begun.elapsed() > self.stall * STALLS {
+                if received < LEAST {
+                    return Err(Fault::Connection(ErrorKind::TimedOut.into()));
+                }
+                (begun, received) = (Instant::now(), 0);
             }
             sink.write(&part[..count]).map_err(Fault::File)?;
             self.count(count);

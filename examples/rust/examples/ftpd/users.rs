@@ -86,6 +86,7 @@ impl Users {
     pub fn read(file: Option<&Path>, anonymous: bool, folder: &Path) -> io::Result<Users> {
         let text = file.map_or(Ok(String::new()), fs::read_to_string)?;
         let mut users = HashMap::new();
+        let text = text.strip_prefix('\u{feff}').unwrap_or(&text);
         for (line, number) in text.lines().zip(1..) {
             if !line.is_empty() && !line.starts_with('#') {
                 add_user(&mut users, line, anonymous, folder).map_err(|fault| {
@@ -128,6 +129,9 @@ fn add_user(
     };
     if name.is_empty() {
         return Err("has no name");
+    }
+    if name.contains('\r') {
+        return Err("has a name that no client can send");
     }
     if anonymous && is_anonymous(name.as_bytes()) {
         return Err("has the name of anybody who may read: that needs --no-anonymous");
