@@ -1,15 +1,15 @@
-//! Each caller of `calling` once, over inputs and outputs in memory.
+//! Each caller of `example_callers` once, over inputs and outputs in memory.
 use crate::held::assert_held;
-use calling::client::{first_code, next_code, tls_agreed};
-use calling::codec::{answer, first_is_noop, next_is_noop};
-use calling::event_loop::{Turn, answer_next};
-use calling::first::answer_client;
-use calling::handler::Basic;
-use calling::lines::log_line;
-use calling::pieces::{answer_pieces, replies_to_pieces};
-use calling::proxy::forward_line;
-use calling::serving::{serve_connection, serve_stranger};
-use calling::upgrading::serve_until_tls;
+use example_callers::client::{first_code, next_code, tls_agreed};
+use example_callers::codec::{answer, first_is_noop, next_is_noop};
+use example_callers::event_loop::{Turn, answer_next};
+use example_callers::first::answer_client;
+use example_callers::handler::Basic;
+use example_callers::lines::log_line;
+use example_callers::pieces::{answer_pieces, replies_to_pieces};
+use example_callers::proxy::forward_line;
+use example_callers::serving::{serve_connection, serve_stranger};
+use example_callers::upgrading::serve_until_tls;
 use std::alloc::Global;
 use std::io;
 use std::io::Read;

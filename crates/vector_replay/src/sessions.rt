@@ -3,10 +3,10 @@ use crate::answers::{Answered, Answers};
 use crate::handlers::{Pieces, Room, Scripted, Turns, Wire};
 use crate::shown::Quoted;
 use crate::words::{CaseError, Word, Words, read_limit};
+use example_transfers::Transfers;
 use std::alloc::Global;
 use std::fmt::Display;
 use std::num::NonZeroUsize;
-use transferring::Transfers;
 use unftp_control_serve::{Count, Engine, Input, Output, Session, Sink, serve, serve_with_limit};
 
 /// How many bytes there are for how each call ended.

@@ -1,0 +1,9 @@
+-- A session, for the examples.
+use Rattle.std.specs.Prelude.{Bool, false, ℕ, codes}
+use Rattle.unftp_control.specs.Endings.{Snapshot}
+use Rattle.unftp_control.specs.Writing.{appended_output}
+use Rattle.example_callers.specs.Sessions.{snapshot}
+
+-- its handler at the start of a session, after so many failures; the writer holds one byte
+abbrev pub before_session : ℕ → Snapshot Bool
+before_session failures = snapshot false failures (appended_output (codes "x"))
