@@ -14,17 +14,17 @@ use Rattle.unftp_control_record.specs.declared.sent.SentLines.{SentLines}
 
 -- the first line is the first of those that are to come
 module _ (before : Pending) {kind : ClientLine} (first : HasFirst before.limit before.bytes kind)
-    where
-  pub log_lines-first : (more : Bytes) → log_lines before.limit (before.bytes ++ more)
-      ≡ Some (logged before.limit (front_line before.bytes))
-      ∷ log_lines before.limit (after_front_line before.bytes ++ more)
-  log_lines-first more =
-      ap (λ bytes. log_lines before.limit (bytes ++ more)) first.whole
-      ∙ ap (log_lines before.limit)
-      (append_assoc (front_line before.bytes) (after_front_line before.bytes) more)
-      ∙ ap (map (λ line. Some (logged before.limit line)))
-      (line_first (front_line before.bytes) (after_front_line before.bytes ++ more)
-      first.is_line).0
+  where
+    pub log_lines-first : (more : Bytes) → log_lines before.limit (before.bytes ++ more)
+        ≡ Some (logged before.limit (front_line before.bytes))
+        ∷ log_lines before.limit (after_front_line before.bytes ++ more)
+    log_lines-first more =
+        ap (λ bytes. log_lines before.limit (bytes ++ more)) first.whole
+        ∙ ap (log_lines before.limit)
+        (append_assoc (front_line before.bytes) (after_front_line before.bytes) more)
+        ∙ ap (map (λ line. Some (logged before.limit line)))
+        (line_first (front_line before.bytes) (after_front_line before.bytes ++ more)
+        first.is_line).0
 
 -- A piece comes.
 pub lines-pushed : (before after : SentLines) (piece : Bytes)

@@ -1,4 +1,4 @@
-use Rattle.std.proofs.Common.{◌≡◌, true, refl, rules}
+use Rattle.std.proofs.Common.{◌≡◌, true, rules}
 use Rattle.std.proofs.lemmas.Result.{err_from_is_err_and}
 use Rattle.unftp_control_record.proofs.SentLemmas.{line_logged, next_found, none_found, same_found}
 use Rattle.unftp_control_record.proofs.sent.SentLines.next_line.Goals as goal
