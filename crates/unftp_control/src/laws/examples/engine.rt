@@ -114,8 +114,7 @@ pub fn an_engine_keeps_this()
 pub fn an_engine_fails()
     ensures no_piece { ¬ LacksPieceRoom (waiting (Some 5)) [] }
     ensures lacks { LacksPieceRoom (record (waiting (Some 5)) { held = 3; buffered = 2 }) (codes "OP") }
-    ensures has_room {
-        ¬ LacksPieceRoom (record (waiting (Some 5)) { held = 4; buffered = 2 }) (codes "OP") }
+    ensures has_room { ¬ LacksPieceRoom (record (waiting (Some 5)) { held = 4; buffered = 2 }) (codes "OP") }
     ensures other_error { (before after : Snapshot ℕ)
         → NoRoom ServeError.WriteZero ⊤ before after → ⊥ }
 {}
