@@ -1,6 +1,7 @@
 """The configuration file of ftpd, and what its users may do: checks of tools/clients/ftpd."""
 
 import pathlib
+import re
 import subprocess
 import tempfile
 
@@ -117,3 +118,17 @@ def check_rights(program):
             wants("the end of STOR", control.reply()[0], 550)
             wants("the file of another", (server.folder / "own" / "late").read_bytes(), b"another's")
             wants("the names", sorted(path.name for path in (server.folder / "own").glob(".*")), [])
+
+
+def check_units(program):
+    """The words of systemd's units are those of the programs."""
+    units = pathlib.Path(__file__).resolve().parents[2] / "examples" / "rust" / "systemd"
+    for name, unit in [("ftpd", "ftpd"), ("proxy", "ftp-proxy"), ("record", "ftp-record")]:
+        text = (units / f"{unit}.service").read_text(encoding="utf-8")
+        lines = re.findall(rf"^ExecStart(?:Pre)?=/usr/local/bin/{name} (.*)$", text, re.M)
+        wants(f"whether {unit} starts {name}", bool(lines), True)
+        built = pathlib.Path(program).with_name(name)
+        if built.exists():
+            said = subprocess.run([built, "--help"], capture_output=True, text=True, timeout=PATIENCE, check=True).stdout
+            options = {word for line in lines for word in line.split() if word.startswith("--")}
+            wants(f"the options that {name} doesn't have", {option for option in options if option not in said}, set())

@@ -1,5 +1,6 @@
 //! Listeners with limits and a clean end.
 use crate::address::unmapped;
+use rustix::process::{getrlimit, Resource};
 use std::collections::HashMap;
 use std::future::{poll_fn, Future};
 use std::io;
@@ -39,6 +40,10 @@ pub struct Connected {
 
 /// How many connections may be refused at a time. Beyond them one is closed without a word.
 const REFUSALS: usize = 16;
+
+/// How many descriptors there are beside those of sessions, those of connections that are refused among
+/// them.
+const OTHERS: usize = 40;
 
 /// How many connections each address has.
 type Counts = Arc<Mutex<HashMap<IpAddr, usize>>>;
@@ -127,6 +132,17 @@ where
     let ended = async { while sessions.join_next().await.is_some() {} };
     let _ = timeout(patience, ended).await;
     Ok(())
+}
+
+/// Warns where so many connections, each of which may need so many descriptors, may need more than there
+/// may be.
+pub fn compare_descriptors(connections: usize, of_a_session: usize) {
+    let needed = (connections * of_a_session + OTHERS) as u64;
+    if let Some(allowed) = getrlimit(Resource::Nofile).current.filter(|it| *it < needed) {
+        tracing::warn!(
+            "{connections} connections may need {needed} descriptors, and `ulimit -n` is {allowed}"
+        );
+    }
 }
 
 /// Ignores SIGUSR1 and SIGUSR2, which would end the program.

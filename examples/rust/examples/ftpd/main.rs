@@ -36,7 +36,6 @@ mod upload;
 mod users;
 
 use arguments::{Settings, Task};
-use rustix::process::{getrlimit, Resource};
 use server::Server;
 use std::io::{self, Read, Write};
 use std::process::ExitCode;
@@ -50,9 +49,7 @@ use unftp_control_examples::{listening, log};
 
 /// How many descriptors a session needs for its connection, a listener or a data connection, and a
 /// file or a directory with its entries.
-const OF_A_SESSION: u64 = 4;
-/// How many others there are, those of connections that are refused among them.
-const OTHERS: u64 = 40;
+const OF_A_SESSION: usize = 4;
 /// How long transfers may go on after the signal that ends the program.
 const GRACE: Duration = Duration::from_secs(10);
 /// How long sessions may take to close after that.
@@ -109,7 +106,7 @@ async fn serve(settings: Settings) -> io::Result<()> {
         listeners.push(listener.map_err(|error| about(&address.to_string(), error))?);
     }
     let limits = settings.limits;
-    compare_descriptors(limits.connections as u64);
+    listening::compare_descriptors(limits.connections, OF_A_SESSION);
     let hangups = signal(SignalKind::hangup())?;
     let (newest, server) = watch::channel(Arc::new(Server::read(settings)?));
     tokio::spawn(read_again(hangups, newest));
@@ -117,16 +114,6 @@ async fn serve(settings: Settings) -> io::Result<()> {
     print(&ports.collect::<io::Result<Vec<_>>>()?.join(" "))?;
     let session = |connected| session::serve(server.borrow().clone(), connected);
     listening::serve(listeners, limits, GRACE + CLOSING, session).await
-}
-
-/// Warns where so many connections may need more descriptors than there may be.
-fn compare_descriptors(connections: u64) {
-    let needed = connections * OF_A_SESSION + OTHERS;
-    if let Some(allowed) = getrlimit(Resource::Nofile).current.filter(|it| *it < needed) {
-        tracing::warn!(
-            "{connections} connections may need {needed} descriptors, and `ulimit -n` is {allowed}"
-        );
-    }
 }
 
 /// Reads users and certificates again at each SIGHUP. Sessions that have begun keep theirs.

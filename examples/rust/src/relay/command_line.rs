@@ -21,6 +21,9 @@ use tracing::level_filters::LevelFilter;
 /// How long the sessions have to end where the program ends.
 const ENDING: Duration = Duration::from_secs(15);
 
+/// How many descriptors a session needs: for both control connections, and for a listener and both ends
+/// of a data connection.
+const OF_A_SESSION: usize = 5;
 /// What signals do, for the help.
 const SIGNALS: &str = "\
 At SIGHUP the certificates and the key are read again, for sessions that begin after that. At SIGINT
@@ -93,6 +96,7 @@ pub async fn run(
         connections: number("connections") as usize,
         per_address: number("per-address") as usize,
     };
+    listening::compare_descriptors(limits.connections, OF_A_SESSION);
     let address = matches.get_one::<SocketAddr>("listen").copied();
     let listener = TcpListener::bind(address.ok_or(io::ErrorKind::InvalidInput)?).await?;
     let (newest, relay) = watch::channel(Arc::new(relay));
