@@ -1,6 +1,7 @@
 //! Tests of what no contract says and no row of `vectors/` can show: what `?` makes of another
 //! error, readers that fail, what Debug writes under its flags, most callers of `example_callers`
-//! once, and the facts of files, for which the program of the rows would have to load `jiff`.
+//! once, recorders, relays with filters of their own, and the facts of files, for which the program
+//! of the rows would have to load `jiff`.
 #![tactic(auto)]
 
 #[cfg(test)]
@@ -15,5 +16,7 @@ mod held;
 mod receiving;
 #[cfg(test)]
 mod recording;
+#[cfg(test)]
+mod relaying;
 #[cfg(test)]
 mod values;

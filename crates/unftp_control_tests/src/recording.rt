@@ -49,3 +49,33 @@ fn exchanges_are_recorded_in_any_pieces(rt: HostRuntime) {
     assert_eq!(rt; recorder.take_unasked().len(), 1);
     assert_held(&rt, log, RECORDED);
 }
+
+/// Appends a text, a path that is longer than what a buffer has room for at first, and a line's end.
+fn append_long(rt: &impl Abort, text: &[u8], buf: &mut Vec<u8>, end: &[u8]) {
+    buf.extend_from_slice(text).expect(rt, "memory");
+    for _ in 0..5000 {
+        buf.push(b'a').expect(rt, "memory");
+    }
+    buf.extend_from_slice(end).expect(rt, "memory");
+}
+
+#[test]
+fn a_long_line_and_three_replies_are_recorded(rt: HostRuntime) {
+    let alloc = rt.alloc();
+    let limits = Limits {
+        line: 8192,
+        reply: 8192,
+    };
+    let mut recorder = Recorder::new(alloc, limits);
+    let mut sent = Vec::new(alloc);
+    append_long(&rt, b"RETR ", &mut sent, b"\r\n");
+    recorder.sent(sent.as_slice()).expect(&rt, "memory");
+    let given = b"220 Ready\r\n110 MARK 1 = 1\r\n150 Opening\r\n226 Done\r\n";
+    recorder.given(given).expect(&rt, "memory");
+    let mut log = Vec::new(alloc);
+    append_exchanges(&rt, &mut recorder, &mut log);
+    let mut want = Vec::new(alloc);
+    let replies = b" -> 110 MARK 1 = 1 | 150 Opening | 226 Done\n";
+    append_long(&rt, b"-> 220 Ready\nRETR ", &mut want, replies);
+    assert_held(&rt, log, want.as_slice());
+}
