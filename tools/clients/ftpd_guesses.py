@@ -1,6 +1,7 @@
 """Guessed passwords at ftpd: checks of tools/clients/ftpd."""
 
 import contextlib
+import signal
 import subprocess
 import threading
 import time
@@ -83,3 +84,16 @@ def check_delayed(program):
             guess(server, OTHER_HOST)
             taken.append(time.monotonic() - begun)
         wants(f"whether {taken} grow", 0.9 < taken[0] < 1.9 and 1.9 < taken[5] < 6, True)
+
+
+def check_delayed_end(program):
+    """A session whose reply is delayed ends with the server."""
+    with Server(program) as server:
+        for _ in range(15):
+            threading.Thread(target=guess, args=(server, OTHER_HOST), daemon=True).start()
+        until_logged(server, "login failed", 15)
+        begun = time.monotonic()
+        server.process.send_signal(signal.SIGTERM)
+        wants("the status", server.process.wait(PATIENCE), 0)
+        taken = time.monotonic() - begun
+        wants(f"whether it ends in 4 seconds, and not in {taken:.1f}", taken < 4, True)

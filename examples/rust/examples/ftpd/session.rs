@@ -11,7 +11,7 @@ use crate::users::{Account, Rights};
 use std::io;
 use std::sync::Arc;
 use std::time::Duration;
-use tokio::time::{sleep, timeout_at, Instant};
+use tokio::time::{timeout, timeout_at, Instant};
 use tracing::{info_span, Instrument, Level};
 use unftp_control::{CodecError, Command, Event, Login, OwnedLine, Reply, ReplyCode as Code};
 use unftp_control_examples::address::unmapped;
@@ -202,14 +202,14 @@ impl Session {
                 }
                 Answer::WrongPassword(reply, delay) => {
                     self.wrong_passwords += 1;
-                    sleep(delay).await;
+                    self.pause(delay).await;
                     if self.wrong_passwords == WRONG_PASSWORDS {
                         return Err(too_many_passwords());
                     }
                     control.reply(reply)?;
                 }
                 Answer::UnseenPassword => {
-                    sleep(DELAY).await;
+                    self.pause(DELAY).await;
                     return Err(too_many_passwords());
                 }
                 Answer::TurnToTls(reply) => {
@@ -242,6 +242,11 @@ impl Session {
             self.deadline = Instant::now() + LOGIN_TIME;
         }
         Ok(line)
+    }
+
+    /// Waits, unless the program is to end.
+    async fn pause(&mut self, delay: Duration) {
+        let _ = timeout(delay, self.stop.changed()).await;
     }
 
     /// REIN: begins anew without a user (RFC 959, section 4.1.1). The connection stays as it is, so that
