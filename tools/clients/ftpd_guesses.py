@@ -6,9 +6,17 @@ import subprocess
 import threading
 import time
 
-from ftpd_server import OTHER_HOST, PASSWORD, PATIENCE, USER, Server, Wrong, until_logged, wants
+from ftpd_server import HOST, OTHER_HOST, PASSWORD, PATIENCE, READER, USER, Server, Wrong, until_logged, wants
 
 GUESSES = 140
+# about how many seconds a password takes to be hashed
+HASHING = 0.3
+
+
+def hash_in(program, rounds):
+    """The hash of the password, in so many rounds."""
+    command = [program, "--hash-password", "--rounds", str(rounds)]
+    return subprocess.run(command, input=PASSWORD, capture_output=True, text=True, timeout=PATIENCE, check=True).stdout.strip()
 
 
 def guess(server, source, name=USER, count=1):
@@ -34,9 +42,11 @@ def beside_guesses(server):
 
 def check_guessed_beside(program):
     """Connections that guess don't keep a right login waiting, and never have all processors. Connecting anew doesn't help them."""
-    slow = subprocess.run([program, "--hash-password", "--rounds", "600000"], input=PASSWORD, capture_output=True, text=True, timeout=PATIENCE, check=True)
+    begun = time.monotonic()
+    hash_in(program, 20_000)
+    rounds = int(20_000 * HASHING / (time.monotonic() - begun))
     with Server(program) as server:
-        (server.place / "users").write_text(f"{USER}:{slow.stdout.strip()}\n", encoding="ascii")
+        (server.place / "users").write_text(f"{USER}:{hash_in(program, rounds)}\n", encoding="ascii")
         server.reads_again(1)
         begun = time.monotonic()
         server.login().connection.close()
@@ -57,6 +67,12 @@ def check_guesses_limited(program):
         until_logged(server, "login failed", 7)
         server.login().connection.close()
         server.login("ftp").connection.close()
+        # of an address that also guesses, a user may go on who was there before, and no other
+        wants("the replies", guess(server, HOST, "nobody", count=5), [530] * 4 + [421])
+        server.login().connection.close()
+        with server.control() as control:
+            control.wants(f"USER {READER}", 331)
+            control.wants(f"PASS {PASSWORD}", 421)
         server.reads_again(1)
         with server.control(OTHER_HOST) as control:
             control.wants("USER nobody", 331)

@@ -72,14 +72,19 @@ impl Guesses {
         self.counts.lock().unwrap_or_else(PoisonError::into_inner)
     }
 
-    /// Whether no password for this name is looked at that comes from this address. A name's user may
-    /// go on where the user has logged in before, whatever others guess.
+    /// Whether no password for this name is looked at that comes from this address, since either had too
+    /// many wrong ones. Where the name's user has logged in from there before, both have to have had
+    /// them, so that the guesses of others keep nobody out.
     pub fn refuses(&self, name: &[u8], from: IpAddr) -> bool {
         let (counts, from, now) = (self.counts(), source(from), Instant::now());
         let of_address = counts.of_addresses.get(&from).map_or(0, |count| count.left(now));
         let of_name = counts.of_names.get(name).map_or(0, |count| count.left(now));
-        of_address >= self.limits.per_address
-            || (of_name >= self.limits.per_name && !counts.right.contains(&(name.to_vec(), from)))
+        let many = [of_address >= self.limits.per_address, of_name >= self.limits.per_name];
+        if counts.right.contains(&(name.to_vec(), from)) {
+            many == [true; 2]
+        } else {
+            many != [false; 2]
+        }
     }
 
     /// Counts a wrong password, and returns how long its reply is to take.

@@ -1,10 +1,10 @@
 //! Files that are received. One that begins at its start is written beside its name and renamed at
 //! its end, so that nobody reads a part of it and no two uploads are mixed. What goes on with a file
 //! that is there is written in place, by one upload at a time: a lock keeps others away.
-use crate::folder::{is_type, FilePath, Folder, New};
+use crate::folder::{FilePath, Folder, New};
 use crate::transfer::size;
 use pbkdf2::password_hash::rand_core::{OsRng, RngCore};
-use rustix::fs::{self, AtFlags, FileType, FlockOperation, Mode, OFlags, Stat};
+use rustix::fs::{self, AtFlags, FlockOperation, Mode, OFlags, Stat};
 use rustix::io::{Errno, OwnedFd};
 use rustix::process::geteuid;
 use std::ffi::{OsStr, OsString};
@@ -238,7 +238,7 @@ fn lock<F: rustix::fd::AsFd>(file: &F, operation: FlockOperation) -> io::Result<
 fn may_replace(folder: &Folder, path: &FilePath, facts: &Stat) -> bool {
     let Ok((directory, name)) = folder.parent(path) else { return false };
     let is_entry = fs::statat(&directory, name, AtFlags::SYMLINK_NOFOLLOW)
-        .is_ok_and(|entry| is_type(&entry, FileType::RegularFile) && entry.st_ino == facts.st_ino);
+        .is_ok_and(|entry| (entry.st_dev, entry.st_ino) == (facts.st_dev, facts.st_ino));
     let is_own = facts.st_nlink == 1 && facts.st_uid == geteuid().as_raw();
     is_entry && is_own && folder.may_create(path).is_ok()
 }
