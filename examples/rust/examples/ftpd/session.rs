@@ -201,11 +201,7 @@ impl Session {
                     self.transfer(control, work, action).await?;
                 }
                 Answer::WrongPassword(reply, delay) => {
-                    self.wrong_passwords += 1;
-                    self.pause(delay).await;
-                    if self.wrong_passwords == WRONG_PASSWORDS {
-                        return Err(too_many_passwords());
-                    }
+                    self.wrong_password(delay).await?;
                     control.reply(reply)?;
                 }
                 Answer::UnseenPassword => {
@@ -242,6 +238,16 @@ impl Session {
             self.deadline = Instant::now() + LOGIN_TIME;
         }
         Ok(line)
+    }
+
+    /// Waits after a wrong password, of which the last one ends the session.
+    async fn wrong_password(&mut self, delay: Duration) -> Result<(), End> {
+        self.wrong_passwords += 1;
+        self.pause(delay).await;
+        if self.wrong_passwords == WRONG_PASSWORDS {
+            return Err(too_many_passwords());
+        }
+        Ok(())
     }
 
     /// Waits, unless the program is to end.
