@@ -4,7 +4,7 @@
  *
  * made by: tools/generated --write
  * toolchain: rattle-kit-13f logic dac8208d650f15bf
- * sources: sha256 28bcc6104b878699394d8b9643a2e27c2f14a53fd755007e6233a11c62d5f1ea
+ * sources: sha256 a69cd43687b7a8f3bf1319bc2dee61222bf65aa4a2096059ad47bfc38143e702
  */
 	.section	.rodata.cst16,"aM",@progbits,16
 	.p2align	4, 0x0
