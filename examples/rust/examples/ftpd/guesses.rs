@@ -106,16 +106,11 @@ impl Guesses {
 
     /// Waits for the turn of an address. The next one comes where what this returns is dropped.
     pub async fn turn(&self, from: IpAddr) -> Turn {
-        let entered = self.queue().enter(source(from));
-        if let Some(turn) = entered {
+        match enter(&self.queue, source(from)) {
+            Entered::Begins(turn) => turn,
             // its sender stays in the queue until then
-            let _ = turn.await;
+            Entered::Waits(turn) => turn.await.expect("the queue sends each its turn"),
         }
-        Turn(self.queue.clone())
-    }
-
-    fn queue(&self) -> MutexGuard<'_, Queue> {
-        self.queue.lock().unwrap_or_else(PoisonError::into_inner)
     }
 }
 
@@ -150,46 +145,64 @@ struct Queue {
     /// How many may begin.
     free: usize,
     /// Those that wait, by their address.
-    waiting: VecDeque<(IpAddr, VecDeque<oneshot::Sender<()>>)>,
+    waiting: VecDeque<(IpAddr, VecDeque<oneshot::Sender<Turn>>)>,
 }
 
 impl Queue {
-    /// Lets one begin, or wait for what it returns.
-    fn enter(&mut self, from: IpAddr) -> Option<oneshot::Receiver<()>> {
-        if self.free > 0 {
-            self.free -= 1;
-            return None;
+    /// Who is next.
+    fn next(&mut self) -> Option<oneshot::Sender<Turn>> {
+        let (from, mut waiting) = self.waiting.pop_front()?;
+        let next = waiting.pop_front();
+        if !waiting.is_empty() {
+            self.waiting.push_back((from, waiting));
         }
-        let (sender, receiver) = oneshot::channel();
-        match self.waiting.iter_mut().find(|(address, _)| *address == from) {
-            Some((_, waiting)) => waiting.push_back(sender),
-            None => self.waiting.push_back((from, [sender].into())),
-        }
-        Some(receiver)
-    }
-
-    /// Lets the next one begin. One that is away is passed over.
-    fn leave(&mut self) {
-        while let Some((from, mut waiting)) = self.waiting.pop_front() {
-            let next = waiting.pop_front();
-            if !waiting.is_empty() {
-                self.waiting.push_back((from, waiting));
-            }
-            if next.is_some_and(|next| next.send(()).is_ok()) {
-                return;
-            }
-        }
-        self.free += 1;
+        next
     }
 }
 
-/// A turn.
+fn locked(queue: &Mutex<Queue>) -> MutexGuard<'_, Queue> {
+    queue.lock().unwrap_or_else(PoisonError::into_inner)
+}
+
+/// What becomes of one that enters the queue.
+enum Entered {
+    Begins(Turn),
+    Waits(oneshot::Receiver<Turn>),
+}
+
+/// Lets one begin, or wait for its turn.
+fn enter(queue: &Arc<Mutex<Queue>>, from: IpAddr) -> Entered {
+    let mut places = locked(queue);
+    if places.free > 0 {
+        places.free -= 1;
+        return Entered::Begins(Turn(Some(queue.clone())));
+    }
+    let (sender, receiver) = oneshot::channel();
+    match places.waiting.iter_mut().find(|(address, _)| *address == from) {
+        Some((_, waiting)) => waiting.push_back(sender),
+        None => places.waiting.push_back((from, [sender].into())),
+    }
+    Entered::Waits(receiver)
+}
+
+/// A turn. It is the value that is sent to the next one, so that it isn't lost where that one goes
+/// away before it takes it.
 #[must_use = "the turn ends where this is dropped"]
-pub struct Turn(Arc<Mutex<Queue>>);
+pub struct Turn(Option<Arc<Mutex<Queue>>>);
 
 impl Drop for Turn {
+    /// Gives it to the next one. One that is away is passed over.
     fn drop(&mut self) {
-        self.0.lock().unwrap_or_else(PoisonError::into_inner).leave();
+        let Some(queue) = self.0.take() else { return };
+        let mut places = locked(&queue);
+        while let Some(next) = places.next() {
+            match next.send(Turn(Some(queue.clone()))) {
+                Ok(()) => return,
+                // it isn't to be given on by its own drop, under this lock
+                Err(mut turn) => drop(turn.0.take()),
+            }
+        }
+        places.free += 1;
     }
 }
 
@@ -207,23 +220,48 @@ mod tests {
         assert_eq!(source(address("192.0.2.7")), address("192.0.2.7"));
     }
 
+    fn queue() -> Arc<Mutex<Queue>> {
+        Arc::new(Mutex::new(Queue { free: 1, waiting: VecDeque::new() }))
+    }
+
+    fn waits(queue: &Arc<Mutex<Queue>>, from: IpAddr) -> oneshot::Receiver<Turn> {
+        match enter(queue, from) {
+            Entered::Begins(_) => panic!("the turn of another"),
+            Entered::Waits(turn) => turn,
+        }
+    }
+
     #[test]
     fn addresses_take_turns() {
-        let mut queue = Queue { free: 1, waiting: VecDeque::new() };
         let (many, one) = (address("192.0.2.1"), address("192.0.2.2"));
-        assert!(queue.enter(many).is_none());
-        let mut waiting: Vec<_> = [many, many, many, one].map(|it| queue.enter(it)).into();
+        let queue = queue();
+        let Entered::Begins(mut turn) = enter(&queue, many) else { panic!("nobody is before it") };
+        let mut waiting: Vec<_> = [many, many, many, one].map(|it| waits(&queue, it)).into();
         let mut order = Vec::new();
         for _ in 0..4 {
-            queue.leave();
-            let has_turn = |it: &mut Option<oneshot::Receiver<()>>| {
-                it.as_mut().is_some_and(|it| it.try_recv().is_ok())
-            };
-            order.extend(waiting.iter_mut().position(has_turn));
+            drop(turn);
+            let next = waiting.iter_mut().map(|it| it.try_recv().ok()).enumerate();
+            let (place, next) = next.filter_map(|(at, it)| Some((at, it?))).next().expect("a turn");
+            order.push(place);
+            turn = next;
         }
         assert_eq!(order, [0, 3, 1, 2]);
-        queue.leave();
-        assert_eq!(queue.free, 1);
+        drop(turn);
+        assert_eq!(locked(&queue).free, 1);
+    }
+
+    #[test]
+    fn a_turn_is_not_lost_with_its_session() {
+        let queue = queue();
+        let from = address("192.0.2.1");
+        let Entered::Begins(turn) = enter(&queue, from) else { panic!("nobody is before it") };
+        let [away, gone, next] = [from; 3].map(|it| waits(&queue, it));
+        drop(away);
+        drop(turn);
+        // the turn was sent, and is not taken
+        drop(gone);
+        drop(next);
+        assert_eq!(locked(&queue).free, 1);
     }
 
     #[test]

@@ -41,12 +41,12 @@ impl Server {
         if let Some(account) = self.users.account_of_anybody(name) {
             return Checked::Right(account);
         }
-        let _turn = self.guesses.turn(from).await;
+        let turn = self.guesses.turn(from).await;
         // others may have been wrong meanwhile
         if self.guesses.refuses(name, from) {
             return Checked::Unseen;
         }
-        match self.users.account(name, password).await {
+        match self.users.account(name, password, turn).await {
             Some(account) => {
                 self.guesses.right(name, from);
                 Checked::Right(account)

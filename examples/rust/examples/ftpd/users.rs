@@ -1,5 +1,6 @@
 //! Who may log in. A file has the hashes of the users' passwords.
 use crate::folder::Folder;
+use crate::guesses::Turn;
 use pbkdf2::password_hash::rand_core::OsRng;
 use pbkdf2::password_hash::{self, PasswordHash, PasswordHasher, PasswordVerifier, SaltString};
 use pbkdf2::{Params, Pbkdf2};
@@ -104,12 +105,17 @@ impl Users {
         (self.anonymous && is_anonymous(name)).then_some(account)
     }
 
-    /// What the user of this name and password has; `None` where there is none.
-    pub async fn account(&self, name: &[u8], password: &[u8]) -> Option<Account> {
+    /// What the user of this name and password has; `None` where there is none. The turn ends once the
+    /// password is hashed, also where nobody waits for it any more.
+    pub async fn account(&self, name: &[u8], password: &[u8], turn: Turn) -> Option<Account> {
         let user = std::str::from_utf8(name).ok().and_then(|name| self.users.get(name));
         let hash = user.map_or(&self.decoy, |user| &user.hash).clone();
         let password = password.to_vec();
-        let is_right = spawn_blocking(move || is_password(&password, &hash)).await.unwrap_or(false);
+        let hashed = spawn_blocking(move || {
+            let _turn = turn;
+            is_password(&password, &hash)
+        });
+        let is_right = hashed.await.unwrap_or(false);
         user.filter(|_| is_right).map(|user| user.account.clone())
     }
 }
