@@ -6,7 +6,7 @@ use Rattle.unftp_control_defs.specs.Events.{FaultKind, FaultSource, FtpEvent, Co
 use Rattle.unftp_control_defs.specs.FtpReply.{FtpReply, CodeAndMsg}
 use Rattle.unftp_control_defs.specs.Texts.{reading_text, kind_text}
 use Rattle.unftp_control_defs.specs.Run.{Law}
-use Rattle.unftp_control_answers.specs.Answers.{auth_reply, prot_reply, facts_reply, feat_reply, port_reply, help_reply, mode_reply, opts_reply, stru_reply}
+use Rattle.unftp_control_commands.specs.Answers.{auth_reply, prot_reply, facts_reply, feat_reply, port_reply, help_reply, mode_reply, opts_reply, stru_reply}
 
 -- the facts of the one file that the handler knows, of 1,234 bytes and changed on 1 December 2023
 -- at noon (RFC 3659, section 7.5)

@@ -1,10 +1,10 @@
 -- What is said of an entry of the tree, or of none.
 use Rattle.std.specs.Prelude.{◌++◌, decimal, Option, Some, None, codes}
 use Rattle.unftp_control_defs.specs.Bytes.{Bytes}
-use Rattle.unftp_control_answers.specs.Answers.{facts_reply}
-use Rattle.unftp_control_commands.specs.Facts.{FileFacts}
+use Rattle.unftp_control_commands.specs.Answers.{facts_reply}
+use Rattle.unftp_control.specs.Facts.{FileFacts}
 use Rattle.unftp_control_defs.specs.FtpReply.{FtpReply, CodeAndMsg}
-use Rattle.unftp_control_answers.specs.ReplyTexts.{quoted}
+use Rattle.unftp_control_commands.specs.ReplyTexts.{quoted}
 use Rattle.login_demo.specs.declared.facts.EntryFacts.{EntryFacts}
 use Rattle.login_demo.specs.declared.tree.Directory.{Directory}
 use Rattle.login_demo.specs.declared.tree.Entry.{Entry}

@@ -1,7 +1,7 @@
 -- The replies that don't depend on the working directory.
 use Rattle.std.specs.Prelude.{ℕ, false, bytes_eq, if◌then◌else◌, [], ◌∷◌, Some, codes}
 use Rattle.unftp_control_defs.specs.Bytes.{Bytes}
-use Rattle.unftp_control_answers.specs.Answers.{auth_reply, feat_reply_with, help_reply_with, prot_reply, mode_reply, opts_reply, stru_reply}
+use Rattle.unftp_control_commands.specs.Answers.{auth_reply, feat_reply_with, help_reply_with, prot_reply, mode_reply, opts_reply, stru_reply}
 use Rattle.unftp_control_defs.specs.Events.{FaultKind, FaultSource, Fault, LineTooLong, Parse}
 use Rattle.unftp_control_defs.specs.FtpCommand.{FtpCommand, Pass, Acct, Syst, TypeCode, Stru, Mode, Help, Noop, Retr, Stor, Appe, List as Listing, Nlst, Mlsd, Feat, Opts, Allo, Abor, Stou, Rnto, Auth, Prot, Site, Other, InvalidCommand}
 use Rattle.unftp_control_defs.specs.FtpReply.{FtpReply, CodeAndMsg}

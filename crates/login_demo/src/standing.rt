@@ -9,7 +9,7 @@ ghost use Rattle.login_demo.specs.Standing.{fixed_reply, refusal_code, refusal_r
 ghost use Rattle.unftp_control_message.specs.ParseRefusal.{refusal_of};
 
 use std::alloc::Global;
-use unftp_control_commands::{Auth, Feat, Help, Mode, Opts, Prot, Stru};
+use unftp_control::commands::{Auth, Feat, Help, Mode, Opts, Prot, Stru};
 use unftp_control_message::Command;
 use unftp_control_message::reply::error::{
     ControlChanError, ControlChanErrorKind, ParseErrorKind, Source,

@@ -4,7 +4,7 @@ use Rattle.std.proofs.lemmas.List.{append_cancel_left, append_cancel_right}
 use Rattle.std.proofs.lemmas.Fmt.{decimal_injective}
 use Rattle.unftp_control_defs.specs.Bytes.{Bytes}
 use Rattle.unftp_control_defs.specs.FtpReply.{FtpReply, CodeAndMsg}
-use Rattle.unftp_control_answers.specs.Answers.{port_reply}
+use Rattle.unftp_control_commands.specs.Answers.{port_reply}
 
 abbrev text_of : FtpReply → Bytes
 text_of (CodeAndMsg code text) = text

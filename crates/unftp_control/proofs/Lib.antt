@@ -1,3 +1,6 @@
+mod YearLemmas
+pub mod FactTextLemmas
+pub mod CivilLemmas
 mod FoldLemmas
 mod EpsvLemmas
 mod PieceLemmas

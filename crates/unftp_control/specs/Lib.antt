@@ -1,3 +1,4 @@
+pub mod Facts
 pub mod Snapshots
 pub mod RunEnd
 pub mod Conversation
@@ -45,9 +46,8 @@ pub use Rattle.unftp_control_codecs.specs.FirstLine
 pub use Rattle.unftp_control_codecs.specs.Decoding
 pub use Rattle.unftp_control_codecs.specs.Calls
 pub use Rattle.unftp_control_codecs.specs.ReplyCodes
-pub use Rattle.unftp_control_answers.specs.Answers
-pub use Rattle.unftp_control_commands.specs.Facts
-pub use Rattle.unftp_control_answers.specs.ReplyTexts
+pub use Rattle.unftp_control_commands.specs.Answers
+pub use Rattle.unftp_control_commands.specs.ReplyTexts
 pub use Rattle.unftp_control_serve.specs.EventMeaning
 pub use Rattle.unftp_control_serve.specs.ClientLines
 pub use Rattle.unftp_control_serve.specs.Answering
@@ -81,7 +81,7 @@ pub use Rattle.unftp_control_proxy.specs.ProxyCalls
 pub use Rattle.unftp_control_proxy.specs.Traffic
 pub use Rattle.unftp_control_proxy.specs.Filtering
 pub use Rattle.unftp_control_proxy.specs.Relaying
-pub use Rattle.unftp_control_record.specs.Exchanges
-pub use Rattle.unftp_control_record.specs.ToCome
-pub use Rattle.unftp_control_record.specs.Recording
-pub use Rattle.unftp_control_record.specs.ExchangeLine
+pub use Rattle.unftp_control_log.specs.Exchanges
+pub use Rattle.unftp_control_log.specs.ToCome
+pub use Rattle.unftp_control_log.specs.Recording
+pub use Rattle.unftp_control_log.specs.ExchangeLine

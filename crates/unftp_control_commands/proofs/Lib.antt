@@ -1,3 +1,3 @@
-mod YearLemmas
-pub mod FactTextLemmas
-pub mod CivilLemmas
+mod ReplaceLemmas
+mod QuoteLemmas
+mod SingleLineLemmas

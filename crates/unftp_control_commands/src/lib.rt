@@ -1,13 +1,28 @@
-//! What the server answers to single commands, with the facts of files.
+//! What the server answers to single commands, and texts for replies.
 #![tactic(auto)]
 
-mod facts;
-mod mlst;
+mod auth;
+mod epsv;
+mod feat;
+mod help;
+mod lines;
+mod listing;
+mod mode;
+mod opts;
+mod prot;
+mod session;
+mod stru;
+mod texts;
 
-pub use facts::{Metadata, format_facts, modify_text, one_text_of_facts};
-pub use mlst::Mlst;
-pub use unftp_control_answers::{
-    Auth, AuthParam, Epsv, Feat, Help, Mode, ModeParam, Opt, Opts, Passive, Prot, ProtParam,
-    SessionChange, Stru, StruParam, make_epsv_reply, quoted_path, quoted_paths_read_back,
-    same_changes, same_passives, single_line_text, single_lines_read_back,
-};
+pub use auth::Auth;
+pub use epsv::{Epsv, Passive, make_epsv_reply, same_passives};
+pub use feat::Feat;
+pub use help::Help;
+pub use listing::facts_reply;
+pub use mode::Mode;
+pub use opts::Opts;
+pub use prot::Prot;
+pub use session::{SessionChange, same_changes};
+pub use stru::Stru;
+pub use texts::{quoted_path, quoted_paths_read_back, single_line_text, single_lines_read_back};
+pub use unftp_control_defs::parameters::{AuthParam, ModeParam, Opt, ProtParam, StruParam};

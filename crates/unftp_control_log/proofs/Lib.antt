@@ -1,3 +1,12 @@
 pub mod ShownTextLemmas
 pub mod PrintableLemmas
 pub mod HiddenLemmas
+pub mod CutLemmas
+pub mod SentLemmas
+pub mod TurnLemmas
+pub mod RecordLemmas
+pub mod LawLemmas
+pub mod SameLemmas
+pub mod TextLemmas
+pub mod BrokenLemmas
+pub mod RoomLemmas

@@ -1,3 +1,8 @@
+-- To be read in this order.
 pub mod LogLine
 pub mod Known
 pub mod Meaning
+pub mod Exchanges
+pub mod ToCome
+pub mod Recording
+pub mod ExchangeLine

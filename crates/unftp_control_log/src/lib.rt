@@ -1,4 +1,6 @@
-//! A line for a log: what a client sent, in printable text, without passwords and accounts.
+//! What a log shows of a control connection, in printable text, without passwords and accounts: a
+//! line of a client, and an exchange: a line, or the greeting, with its replies. A recorder finds
+//! the exchanges in what both sides send, in any pieces.
 #![tactic(auto)]
 
 ghost use Rattle.std.specs.Prelude.{◌≡◌, ◌++◌, OnErr, OnOk};
@@ -10,16 +12,21 @@ ghost use Rattle.unftp_control_serve.specs.EventMeaning.{event_meant};
 mod command;
 pub mod examples;
 pub mod laws;
+mod recorder;
 mod refusal;
+mod sent;
 mod text;
+mod turn;
 mod visible;
 mod words;
+mod write;
 
 use crate::command::visible_command;
+pub use crate::recorder::{Exchange, Limits, Recorder};
 use crate::refusal::visible_refusal;
-pub use crate::text::append_shown;
 use crate::text::append_visible;
 use crate::visible::Visible;
+pub use crate::write::write_exchange;
 use itoa::Buffer;
 use std::alloc::AllocError;
 use unftp_control_serve::Event;

@@ -8,7 +8,7 @@ use Rattle.unftp_control_defs.specs.Events.{FtpEvent, Command, Refused, is_quit}
 use Rattle.unftp_control_defs.specs.FtpReply.{FtpReply, CodeAndMsg, Nothing}
 use Rattle.unftp_control_defs.specs.Texts.{kind_text}
 use Rattle.unftp_control_defs.specs.Run.{Law}
-use Rattle.unftp_control_answers.specs.Answers.{help_reply}
+use Rattle.unftp_control_commands.specs.Answers.{help_reply}
 
 abbrev pub is_help : FtpCommand → Bool
 is_help Help = true

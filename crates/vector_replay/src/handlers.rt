@@ -11,7 +11,7 @@ use itoa::Buffer;
 use std::alloc::{AllocError, Global};
 use std::io;
 use std::io::{Read, Write};
-use unftp_control_answers::Help;
+use unftp_control_commands::Help;
 use unftp_control_message::Command;
 use unftp_control_message::reply::error::ControlChanError;
 use unftp_control_message::reply::{Reply, ReplyCode};

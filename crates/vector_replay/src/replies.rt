@@ -4,7 +4,7 @@ use crate::lines::read_command;
 use crate::shown::Quoted;
 use crate::words::{CaseError, Word, Words};
 use std::alloc::Global;
-use unftp_control_answers::{
+use unftp_control_commands::{
     Auth, Epsv, Feat, Help, Mode, Opts, Passive, Prot, SessionChange, Stru, make_epsv_reply,
     quoted_path, single_line_text,
 };

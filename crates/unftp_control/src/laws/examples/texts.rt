@@ -1,12 +1,12 @@
 //! Examples of the definitions, worked out by hand: for each one that holds and one that doesn't,
 //! at the boundary.
 ghost use Rattle.std.specs.Prelude.{◌≡◌, ◌++◌, [], None, Some, codes, false, true};
-ghost use Rattle.unftp_control_answers.specs.Answers.{auth_change, epsv_reply, port_reply, prot_change};
-ghost use Rattle.unftp_control_answers.specs.ReplyTexts.{HasNoFirstQuote, quoted};
-ghost use Rattle.unftp_control_answers.specs.declared.epsv.Passive.TheVariants.{Port, Prebound};
-ghost use Rattle.unftp_control_answers.specs.declared.session.SessionChange.TheVariants.{DataTls, Nothing, SecureControlChannel};
+ghost use Rattle.unftp_control_commands.specs.Answers.{auth_change, epsv_reply, port_reply, prot_change};
+ghost use Rattle.unftp_control_commands.specs.ReplyTexts.{HasNoFirstQuote, quoted};
+ghost use Rattle.unftp_control_commands.specs.declared.epsv.Passive.TheVariants.{Port, Prebound};
+ghost use Rattle.unftp_control_commands.specs.declared.session.SessionChange.TheVariants.{DataTls, Nothing, SecureControlChannel};
 ghost use Rattle.unftp_control_codecs.specs.ReplyCodes.{IsReplyCode};
-ghost use Rattle.unftp_control_commands.specs.Facts.{modify_fact};
+ghost use Rattle.unftp_control.specs.Facts.{modify_fact};
 ghost use Rattle.unftp_control_defs.specs.FtpReply.{CodeAndMsg};
 ghost use Rattle.unftp_control_defs.specs.declared.parameters.AuthParam.TheVariants.{Ssl, Tls};
 ghost use Rattle.unftp_control_defs.specs.declared.parameters.ProtParam.TheVariants.{Clear, Private, Safe};

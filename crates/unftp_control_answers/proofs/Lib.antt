@@ -1,3 +1,0 @@
-mod ReplaceLemmas
-mod QuoteLemmas
-mod SingleLineLemmas

@@ -1,0 +1,68 @@
+//! AUTH (RFC 2228, section 3; RFC 4217, section 4).
+ghost use Rattle.std.specs.Prelude.{◌≡◌, IfOk, IfErr};
+ghost use Rattle.unftp_control_defs.specs.Events.{out_of_memory};
+ghost use Rattle.unftp_control_message.specs.ErrorMeaning.{fault_of};
+ghost use Rattle.unftp_control_message.specs.ReplyMeaning.{reply_of};
+ghost use Rattle.unftp_control_commands.specs.Answers.{auth_reply, auth_change};
+
+use crate::session::SessionChange;
+use std::alloc::Global;
+use std::marker::Model;
+use unftp_control_defs::parameters::AuthParam;
+use unftp_control_message::reply::error::ControlChanError;
+use unftp_control_message::reply::{Reply, ReplyCode};
+
+/// AUTH with its mechanism.
+#[derive(Debug, Drop)]
+pub struct Auth {
+    protocol: AuthParam,
+}
+
+impl Model for Auth {
+    ghost use Rattle.unftp_control_defs.specs.declared.parameters.AuthParam.{AuthParam};
+
+    ghost Value = { AuthParam };
+
+    ghost view = { λ command. command.protocol };
+}
+
+impl Auth {
+    /// AUTH with this mechanism.
+    pub fn new(protocol: AuthParam) -> Auth
+        ensures { result ≡ protocol }
+    {
+        Auth { protocol }
+    }
+
+    /// The reply, and what the session has to do once it is sent (RFC 4217, section 4): 234 and TLS
+    /// on the control connection where TLS is configured and asked for, 504 for SSL, and 502 where
+    /// TLS is not configured. It fails only when out of memory, with the kind `OutOfMemory`.
+    pub fn reply(
+        &self,
+        alloc: Global,
+        tls_configured: bool,
+    ) -> Result<(Reply, SessionChange), ControlChanError>
+        ensures ok { IfOk result (λ answer. (reply_of answer.0 ≡ auth_reply tls_configured self.now)
+            × (answer.1 ≡ auth_change tls_configured self.now)) }
+        ensures err { IfErr result (λ error. fault_of error ≡ out_of_memory) }
+    {
+        let (code, text, change) = match (tls_configured, &self.protocol) {
+            (false, _) => (
+                ReplyCode::CommandNotImplemented,
+                "TLS/SSL not configured",
+                SessionChange::Nothing,
+            ),
+            (true, AuthParam::Tls) => (
+                ReplyCode::AuthOkayNoDataNeeded,
+                "Upgrading to TLS",
+                SessionChange::SecureControlChannel,
+            ),
+            (true, AuthParam::Ssl) => (
+                ReplyCode::CommandNotImplementedForParameter,
+                "Auth SSL not implemented",
+                SessionChange::Nothing,
+            ),
+        };
+        Ok((Reply::new(alloc, code, text)?, change))
+    }
+}

@@ -1,0 +1,51 @@
+//! OPTS (RFC 2389, section 4).
+ghost use Rattle.std.specs.Prelude.{◌≡◌, IfOk, IfErr};
+ghost use Rattle.unftp_control_defs.specs.Events.{out_of_memory};
+ghost use Rattle.unftp_control_message.specs.ErrorMeaning.{fault_of};
+ghost use Rattle.unftp_control_message.specs.ReplyMeaning.{reply_of};
+ghost use Rattle.unftp_control_commands.specs.Answers.{opts_reply};
+
+use std::alloc::Global;
+use std::marker::Model;
+use unftp_control_defs::parameters::Opt;
+use unftp_control_message::reply::error::ControlChanError;
+use unftp_control_message::reply::{Reply, ReplyCode};
+
+/// OPTS with its option.
+#[derive(Debug, Drop)]
+pub struct Opts {
+    option: Opt,
+}
+
+impl Model for Opts {
+    ghost use Rattle.unftp_control_defs.specs.declared.parameters.Opt.{Opt};
+
+    ghost Value = { Opt };
+
+    ghost view = { λ command. command.option };
+}
+
+impl Opts {
+    /// OPTS with this option.
+    pub fn new(option: Opt) -> Opts
+        ensures { result ≡ option }
+    {
+        Opts { option }
+    }
+
+    /// 200 for UTF-8 on, which it always is, and 504 for off (RFC 2389, section 4). It fails only
+    /// when out of memory, with the kind `OutOfMemory`.
+    pub fn reply(&self, alloc: Global) -> Result<Reply, ControlChanError>
+        ensures ok { IfOk result (λ reply. reply_of reply ≡ opts_reply self.now) }
+        ensures err { IfErr result (λ error. fault_of error ≡ out_of_memory) }
+    {
+        let (code, text) = match &self.option {
+            Opt::Utf8 { on: true } => (ReplyCode::CommandOkay, "Always in UTF-8 mode."),
+            Opt::Utf8 { on: false } => (
+                ReplyCode::CommandNotImplementedForParameter,
+                "Non UTF-8 mode not supported",
+            ),
+        };
+        Reply::new(alloc, code, text)
+    }
+}

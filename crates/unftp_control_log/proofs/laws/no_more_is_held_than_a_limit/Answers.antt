@@ -1,0 +1,10 @@
+use Rattle.unftp_control_log.proofs.LawLemmas.{lines_held, replies_held}
+use Rattle.unftp_control_log.proofs.laws.no_more_is_held_than_a_limit.Goals as goal
+
+pub returns : goal.returns
+returns c = record {
+  replies = λ limits recorder later passed new is waiting incomplete.
+      replies_held new is waiting incomplete;
+  lines = λ limits recorder later passed new is waiting complete.
+      lines_held new is waiting complete;
+}

@@ -1,8 +1,0 @@
-use Rattle.unftp_control_record.proofs.TextLemmas.{exchange_prints, recorded_print}
-use Rattle.unftp_control_record.proofs.laws.exchange_lines_are_printable.Goals as goal
-
-pub returns : goal.returns
-returns c = record {
-  each = exchange_prints;
-  recorded = λ limits recorder later passed new is. recorded_print new is;
-}
