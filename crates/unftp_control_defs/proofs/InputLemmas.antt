@@ -6,7 +6,7 @@ use Rattle.std.proofs.lemmas.List.Folds.{concat-append}
 use Rattle.std.specs.Io.KnownBytes.{IsAtEnd}
 use Rattle.std.proofs.KnownBytes.{Consumes-nil, Consumes-trans}
 use Rattle.unftp_control_defs.specs.Bytes.{Bytes}
-use Rattle.unftp_control_defs.specs.Input.{InputState, HasEnded, HasPieceSize, HasRead, WereRead}
+use Rattle.unftp_control_defs.specs.Input.{InputState, HasEnded, HasPieceSize, HasRead, ReadsPiece, WereRead}
 
 HasRead-then : {a b c : InputState} {read more : Bytes} → HasRead a b read → HasRead b c more
     → HasRead a c (read ++ more)
@@ -38,17 +38,17 @@ reads-more before now pieces reads more so_far next = next ∙ ap (λ reads. rea
 
 module _ {a b c : InputState} {pieces : List Bytes} (so_far : WereRead a b pieces []) where
   -- a piece more
-  pub WereRead-more : (piece : Bytes) → HasRead b c piece → c.reads ≡ b.reads ++ length piece ∷ []
-      → HasPieceSize piece → WereRead a c (pieces ++ piece ∷ []) []
-  WereRead-more piece given reads size = record {
-    given = rw (concat-more pieces piece) (HasRead-then so_far.given given);
-    reads = rw (append-nil, map-append) (reads-more a b pieces c.reads (length piece ∷ []) so_far.reads reads);
+  pub WereRead-more : (piece : Bytes) → ReadsPiece b c piece → WereRead a c (pieces ++ piece ∷ []) []
+  WereRead-more piece read = record {
+    given = rw (concat-more pieces piece) (HasRead-then so_far.given read.given);
+    reads = rw (append-nil, map-append)
+        (reads-more a b pieces c.reads (length piece ∷ []) so_far.reads read.reads);
     sizes = sized pieces so_far.sizes;
   }
     where
       sized : (pieces : List Bytes) → AllByRecursion HasPieceSize pieces
           → AllByRecursion HasPieceSize (pieces ++ piece ∷ [])
-      sized [] each = (size, tt)
+      sized [] each = (read.size, tt)
       sized (first ∷ pieces) each = (each.0, sized pieces each.1)
 
   -- a read that gave nothing, or that failed

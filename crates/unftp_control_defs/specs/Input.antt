@@ -42,6 +42,26 @@ OneRead result buffer before after = MatchResult result
 abbrev pub HasPieceSize : Bytes → Type 0
 HasPieceSize piece = (0 < length piece) × (length piece ≤ 4096)
 
+-- One read gave this piece;
+pub record ReadsPiece (before after : InputState) (piece : Bytes) : Type 0 where
+  pub given : HasRead before after piece
+  pub size : HasPieceSize piece
+  pub reads : after.reads ≡ before.reads ++ length piece ∷ []
+  pub failures : after.failures ≡ before.failures
+
+-- or it came to the reader's end;
+pub record ReadsEnd (before after : InputState) : Type 0 where
+  pub given : HasRead before after []
+  pub at_end : IsAtEnd after.remaining
+  pub reads : after.reads ≡ before.reads ++ 0 ∷ []
+  pub failures : after.failures ≡ before.failures
+
+-- or it failed.
+pub record ReadFails (before after : InputState) : Type 0 where
+  pub given : HasRead before after []
+  pub reads : after.reads ≡ before.reads
+  pub failures : after.failures ≡ before.failures + 1
+
 -- Each of these pieces was read, and then as many bytes as `more` says: of none, where the last
 -- read came to the end.
 pub record WereRead (before after : InputState) (pieces : List Bytes) (more : List ℕ)

@@ -1,11 +1,14 @@
 //! A reader whose reads are recorded.
-ghost use Rattle.std.specs.Prelude.{◌≡◌, []};
+ghost use Rattle.std.specs.Prelude.{◌≡◌, [], MatchOption, MatchResult};
 ghost use Rattle.std.specs.Io.{ReadsAtMost};
-ghost use Rattle.unftp_control_defs.specs.Input.{OneRead, input_state_of};
+ghost use Rattle.unftp_control_defs.specs.Input.{OneRead, ReadFails, ReadsEnd, ReadsPiece, input_state_of};
 
 use crate::count::{Count, Trace};
 use std::io;
 use std::io::Read;
+
+/// How many bytes a piece has at most.
+pub const PIECE: usize = 4096;
 
 /// A reader with a record of all bytes that its reads gave, of how many each gave, and of how many
 /// reads failed. The record takes no byte, and only contracts see it.
@@ -61,5 +64,23 @@ impl<R: Read> Input<R> {
             Err(_) => self.failures.raise(),
         }
         result
+    }
+
+    /// Reads once into `room`, and returns the piece that came, or `None` at the reader's end. At an
+    /// error nothing came. Each error counts, `Interrupted` too.
+    pub fn read_piece<'a>(&mut self, room: &'a mut [u8; PIECE]) -> io::Result<Option<&'a [u8]>>
+        ensures { MatchResult result (λ next. MatchOption next
+            (ReadsEnd (input_state_of R.remaining self.old) (input_state_of R.remaining self.new))
+            (λ piece. ReadsPiece (input_state_of R.remaining self.old)
+            (input_state_of R.remaining self.new) piece.now))
+            (λ _. ReadFails (input_state_of R.remaining self.old)
+            (input_state_of R.remaining self.new)) }
+    {
+        let n = self.read(room)?;
+        if n == 0 {
+            return Ok(None);
+        }
+        let (piece, _) = room.split_at(n);
+        Ok(Some(piece))
     }
 }

@@ -83,8 +83,12 @@ module _ {before : PendingReplies} {input : InputState} {now : PendingReplies}
         → Reading before input after next (turn + 1)
     more_read {after} {next} n h some = record {
       pieces = r.pieces ++ h.0 ∷ [];
-      were_read = WereRead-more r.were_read h.0 h.4 (rw (sym h.2) at h.5)
-          (omega (arith, h.2, some), omega (arith, h.2, h.3));
+      were_read = WereRead-more r.were_read h.0 (record {
+        given = h.4;
+        size = (omega (arith, h.2, some), omega (arith, h.2, h.3));
+        reads = rw (sym h.2) at h.5;
+        failures = h.6;
+      });
       quiet = h.6 ∙ r.quiet;
       bytes_are = ap (λ (p : PendingReplies). p.bytes) h.1
           ∙ ap (λ b. b ++ h.0) bytes_are ∙ append_assoc before.bytes read h.0

@@ -8,7 +8,7 @@ ghost use Rattle.unftp_control_read.specs.ReplyDecoding.{FindsFirst, IsReturned,
 ghost use Rattle.unftp_control_read.specs.Receiving.{AppendsPending};
 
 use crate::errors::{NextReplyError, ReceiveError};
-use crate::receiving::{PIECE, read_after};
+use crate::receiving::read_after;
 use crate::reply::ReceivedReply;
 use crate::search::Search;
 use crate::{FoundReply, Front, read_front};
@@ -17,7 +17,7 @@ use std::io::Read;
 use std::marker::Model;
 use unftp_control_defs::buffer::PendingBytes;
 use unftp_control_defs::count::Count;
-use unftp_control_defs::input::Input;
+use unftp_control_defs::input::{Input, PIECE};
 
 /// The reply that the pending bytes begin with.
 #[derive(Debug, Clone, Copy, PartialEq, Eq)]

@@ -13,10 +13,7 @@ use crate::errors::ReceiveError;
 use crate::reply::ReceivedReply;
 use std::alloc::AllocError;
 use std::io::Read;
-use unftp_control_defs::input::Input;
-
-/// How many bytes are read at a time, at most.
-pub(crate) const PIECE: usize = 4096;
+use unftp_control_defs::input::{Input, PIECE};
 
 /// Appends as many zeros as are read at a time.
 fn add_room(buf: &mut Vec<u8>) -> Result<(), AllocError>

@@ -9,7 +9,7 @@ use Rattle.std.specs.Prelude.{IfOk}
 use Rattle.std.specs.Io.KnownBytes.{Appends, Consumes, IsAtEnd}
 use Rattle.unftp_control_defs.specs.Bytes.{Bytes, LF, Lacks}
 use Rattle.unftp_control_defs.specs.Events.{FtpEvent, events}
-use Rattle.unftp_control_defs.specs.Input.{InputState, HasPieceSize, HasRead, WereRead}
+use Rattle.unftp_control_defs.specs.Input.{InputState, HasPieceSize, ReadFails, ReadsEnd, ReadsPiece, WereRead}
 use Rattle.unftp_control_defs.specs.Lines.{incomplete_line}
 use Rattle.unftp_control_defs.specs.Run.{SessionLaw, last_state, replies, text_of, run_for, ends_for, unread, after_end}
 use Rattle.unftp_control_defs.proofs.EncodingLemmas.{ReadsBack-encoded}
@@ -102,14 +102,12 @@ module _ {limit : Option ℕ} {S : Type 0} {law : SessionLaw S} {m : Snapshot S}
     gone = gone_on s.so_far on
 
     -- a piece that was read
-    module _ (piece : Bytes) (given : HasRead j k piece)
-        (reads : k.reads ≡ j.reads ++ length piece ∷ []) (size : HasPieceSize piece)
-        (quiet : k.failures ≡ j.failures) where
+    module _ (piece : Bytes) (read : ReadsPiece j k piece) where
       whole : concat (s.pieces ++ piece ∷ []) ≡ concat s.pieces ++ piece
       whole = concat-more s.pieces piece
 
       were_read_so : WereRead i k (s.pieces ++ piece ∷ []) []
-      were_read_so = WereRead-more s.were_read piece given reads size
+      were_read_so = WereRead-more s.were_read piece read
 
       -- and whose lines were answered
       module _ (after : Snapshot S) (all : AllAnswered law n
@@ -132,8 +130,8 @@ module _ {limit : Option ℕ} {S : Type 0} {law : SessionLaw S} {m : Snapshot S}
           so_far = so_far_more;
           running = (refl, still_on);
           many = rw whole
-              (omega (arith, s.many, size.0, length-append (concat s.pieces) piece));
-          no_read_failed = quiet ∙ s.no_read_failed;
+              (omega (arith, s.many, read.size.0, length-append (concat s.pieces) piece));
+          no_read_failed = read.failures ∙ s.no_read_failed;
           buffered = ap (λ limit. kept_length limit (pending_with engine law n.state piece))
               s.so_far.limited;
           held = held_so;
@@ -160,7 +158,7 @@ module _ {limit : Option ℕ} {S : Type 0} {law : SessionLaw S} {m : Snapshot S}
               left = reports.left ∙ so_far_more.left;
               scanned = omega (arith, reports.scanned, so_far_more.scanned);
               held = reports.held ∙ held_so;
-              no_read_failed = quiet ∙ s.no_read_failed;
+              no_read_failed = read.failures ∙ s.no_read_failed;
             }
 
       -- or at which it failed
@@ -175,7 +173,7 @@ module _ {limit : Option ℕ} {S : Type 0} {law : SessionLaw S} {m : Snapshot S}
           done = events limit (concat s.pieces) ++ done;
           failed = RunFailed-on s.so_far on piece failed;
           late = (done, refl);
-          no_read_failed = quiet ∙ s.no_read_failed;
+          no_read_failed = read.failures ∙ s.no_read_failed;
         }
 
         no_room : after ≡ n → NoRoomForPiece limit law m after i k
@@ -184,7 +182,7 @@ module _ {limit : Option ℕ} {S : Type 0} {law : SessionLaw S} {m : Snapshot S}
           last = piece;
           were_read = were_read_so;
           answered = record { answered = rw same gone.answered; goes_on = gone.goes_on };
-          no_read_failed = quiet ∙ s.no_read_failed;
+          no_read_failed = read.failures ∙ s.no_read_failed;
         }
 
         pub Serving-failed : {lacks : Type 0} (error : ServeError) → NoRoom error lacks n after
@@ -199,35 +197,30 @@ module _ {limit : Option ℕ} {S : Type 0} {law : SessionLaw S} {m : Snapshot S}
         Serving-failed error (inr failed) = absurd failed.1.means
         Serving-failed error (inl room) = absurd (cc)
 
-    pub Serving-all : (piece : Bytes) {count : ℕ} {served : Served} → Reports served engine
-        → count ≡ 0 → k.reads ≡ j.reads ++ count ∷ [] →
-        HasRead j k (take count piece) → IsAtEnd k.remaining →
-        k.failures ≡ j.failures → AnsweredAll limit law m n i k served
-    Serving-all piece {served} reports zero reads given at_end kept =
-        let nothing : HasRead j k [] = rw zero at given in
+    pub Serving-all : {served : Served} → Reports served engine → ReadsEnd j k
+        → AnsweredAll limit law m n i k served
+    Serving-all {served} reports end =
         let still_on : served.done ≡ false = reports.done ∙ on in
         record {
           pieces = s.pieces;
-          were_read = rw still_on (WereRead-no_more s.were_read (0 ∷ []) nothing
-              (rw zero at reads));
+          were_read = rw still_on (WereRead-no_more s.were_read (0 ∷ []) end.given end.reads);
           ended = reports.done ∙ s.so_far.finished;
           in_last = λ h. absurd (false≢true (sym still_on ∙ h));
-          at_end = λ _. at_end;
+          at_end = λ _. end.at_end;
           answered = s.so_far.answered;
           left = reports.left ∙ s.so_far.left;
           scanned = omega (arith, reports.scanned, s.so_far.scanned);
           held = reports.held ∙ s.held;
-          no_read_failed = kept ∙ s.no_read_failed;
+          no_read_failed = end.failures ∙ s.no_read_failed;
         }
 
-    pub Serving-read_failed : HasRead j k [] → k.reads ≡ j.reads
-        → k.failures ≡ j.failures + 1 →
-        ReadFailed limit law m n i k
-    Serving-read_failed nothing reads counted = record {
+    pub Serving-read_failed : ReadFails j k → ReadFailed limit law m n i k
+    Serving-read_failed fails = record {
       pieces = s.pieces;
-      were_read = WereRead-no_more s.were_read [] nothing (reads ∙ sym (append-nil j.reads));
+      were_read = WereRead-no_more s.were_read [] fails.given
+          (fails.reads ∙ sym (append-nil j.reads));
       answered = record { answered = gone.answered; goes_on = gone.goes_on };
-      read_failed = counted ∙ ap (λ n. n + 1) s.no_read_failed;
+      read_failed = fails.failures ∙ ap (λ n. n + 1) s.no_read_failed;
     }
 
   pub Serving-too_often : {n : Snapshot S} {j : InputState} {engine : EngineState} {turn : ℕ}

@@ -24,4 +24,4 @@ pub use send::Sink;
 pub use service::{Served, known_input_is_served, serve, serve_with_limit};
 pub use session::Session;
 pub use unftp_control_defs::count::Count;
-pub use unftp_control_defs::input::Input;
+pub use unftp_control_defs::input::{Input, PIECE};

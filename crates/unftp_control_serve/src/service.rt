@@ -12,7 +12,7 @@ use crate::session::Session;
 use std::alloc::Global;
 use std::io::{Read, Write};
 use unftp_control_defs::count::Count;
-use unftp_control_defs::input::Input;
+use unftp_control_defs::input::{Input, PIECE};
 
 /// What `serve` returns at the end of its input, or of the session.
 #[derive(Drop)]
@@ -27,9 +27,6 @@ pub struct Served {
     /// The most bytes that were held in the buffer. Only contracts see it.
     pub held: Count,
 }
-
-/// How many bytes are read at most at once.
-const PIECE: usize = 4096;
 
 /// Answers the lines that the reader gives (RFC 959, section 5.3), until it gives no more or the
 /// handler is done.
@@ -133,17 +130,14 @@ fn serve_lines<R: Read, W: Write, H: Session>(
         (input_state_of R.remaining reader.new)) }
 {
     let mut engine = Engine::limited(alloc, limit);
-    let mut piece = [0u8; PIECE];
+    let mut room = [0u8; PIECE];
     for _turn in 0..u64::MAX {
-        let n = match reader.read(&mut piece) {
-            Ok(n) => n,
+        let piece = match reader.read_piece(&mut room) {
+            Ok(Some(piece)) => piece,
+            Ok(None) => return Ok(served_by(&engine)),
             Err(error) => return Err(ServeError::Read(error)),
         };
-        if n == 0 {
-            return Ok(served_by(&engine));
-        }
-        let (read, _) = piece.split_at(n);
-        engine.feed(read, handler, writer)?;
+        engine.feed(piece, handler, writer)?;
         let is_over = engine.finished();
         if is_over {
             return Ok(served_by(&engine));

@@ -1,72 +1,42 @@
-use Rattle.std.proofs.Common.{◌<◌, ◌≤◌, refl, sym, ap, ◌∙◌, length, arith}
+use Rattle.std.proofs.Common.{sym, ap, ◌∙◌, arith}
 use Rattle.std.proofs.lemmas.Result.{err_from_is_err_and}
 use Rattle.unftp_control_serve.proofs.HeardLemmas.{Begins-trans, Begins-refl}
 use Rattle.unftp_control_serve.proofs.ServiceLemmas.{Serving-start, Serving-next, Serving-done, Serving-failed, Serving-all, Serving-read_failed, Serving-too_often}
 use Rattle.unftp_control_serve.proofs.service.serve_lines.Goals as goal
 
 pub loop-turn-init : goal.loop-turn-init
-loop-turn-init g c =
-    record {
-      heard = Begins-refl _;
-      serving = λ w so. Serving-start c.limited-engine.ensures;
-      room = refl;
-    }
+loop-turn-init g c = record {
+  heard = Begins-refl _;
+  serving = λ w so. Serving-start c.limited-engine.ensures;
+}
 
 pub returns-in_err-feed-clause-err : goal.returns-in_err-feed-clause-err
 returns-in_err-feed-clause-err g c =
-    let cut = c.split_at.ensures in
-    let read = c.in-Ok.ensures in
-    let some : 0 < length c.split_at.result.0.now =
-    omega (arith, cut.front_len, c.if-n-eq0.false) in
-    let short : length c.split_at.result.0.now ≤ 4096 =
-    omega (arith, c.loop-turn.invariant.room, c.read.auto.buf, cut.front_len, read.bound.0) in
-    let given = rw (sym cut.front) at read.reads.0 in
     let error = err_from_is_err_and c.from_residual.result c.from_residual.ensures.1 in
     let before = c.loop-turn.invariant.serving _ c.in_err-feed.ensures.heard in
-    rw (error.1, error.2)
-    (Serving-failed _ before c.split_at.result.0.now given
-    (rw cut.front_len read.reads.2) (some, short) read.reads.3 _ _
+    rw (error.1, error.2) (Serving-failed _ before _ c.in-Some.ensures _ _
     (c.in_err-feed.ensures.outcome before.running _ (Begins-refl _)))
 
 pub loop-turn-preserved : goal.loop-turn-preserved
-loop-turn-preserved g c =
-    let cut = c.split_at.ensures in
-    let read = c.in-Ok.ensures in
-    let some : 0 < length c.split_at.result.0.now =
-    omega (arith, cut.front_len, c.if-n-eq0.false) in
-    let short : length c.split_at.result.0.now ≤ 4096 =
-    omega (arith, c.loop-turn.invariant.room, c.read.auto.buf, cut.front_len, read.bound.0) in
-    let given = rw (sym cut.front) at read.reads.0 in
-    record {
-      heard = Begins-trans _ _ _ c.in_ok-feed.ensures.heard c.loop-turn.invariant.heard;
-      serving = λ w so.
-          let before = c.loop-turn.invariant.serving w
+loop-turn-preserved g c = record {
+  heard = Begins-trans _ _ _ c.in_ok-feed.ensures.heard c.loop-turn.invariant.heard;
+  serving = λ w so.
+      let before = c.loop-turn.invariant.serving w
           (Begins-trans w _ _ so c.in_ok-feed.ensures.heard) in
-          let is = c.in_ok-feed.ensures.fed before.running w so in
-          let on = ap (λ engine. engine.finished) (sym is) ∙ sym c.finished-is_over.ensures
+      let is = c.in_ok-feed.ensures.fed before.running w so in
+      let on = ap (λ engine. engine.finished) (sym is) ∙ sym c.finished-is_over.ensures
           ∙ c.if-is_over.false in
-          rw is
-          (Serving-next _ before c.split_at.result.0.now
-          given (rw cut.front_len read.reads.2) (some, short) read.reads.3 _
-          (c.in_ok-feed.ensures.outcome before.running w so) on);
-      room = omega (arith, c.loop-turn.invariant.room, c.read.auto.buf);
-    }
+      rw is (Serving-next _ before _ c.in-Some.ensures _
+      (c.in_ok-feed.ensures.outcome before.running w so) on);
+}
 
 pub returns-then-is_over-clause-ok : goal.returns-then-is_over-clause-ok
 returns-then-is_over-clause-ok g c =
-    let cut = c.split_at.ensures in
-    let read = c.in-Ok.ensures in
-    let some : 0 < length c.split_at.result.0.now =
-    omega (arith, cut.front_len, c.if-n-eq0.false) in
-    let short : length c.split_at.result.0.now ≤ 4096 =
-    omega (arith, c.loop-turn.invariant.room, c.read.auto.buf, cut.front_len, read.bound.0) in
-    let given = rw (sym cut.front) at read.reads.0 in
     let before = c.loop-turn.invariant.serving _ c.in_ok-feed.ensures.heard in
     let is = c.in_ok-feed.ensures.fed before.running _ (Begins-refl _) in
     let done = ap (λ engine. engine.finished) (sym is) ∙ sym c.finished-is_over.ensures
-    ∙ c.if-is_over.true in
-    Serving-done _ before c.split_at.result.0.now given
-    (rw cut.front_len read.reads.2) (some, short) read.reads.3 _
+        ∙ c.if-is_over.true in
+    Serving-done _ before _ c.in-Some.ensures _
     (c.in_ok-feed.ensures.outcome before.running _ (Begins-refl _))
     (rw is at c.served_by-then-is_over.ensures) done
 
@@ -76,14 +46,9 @@ returns-clause-err g c = Serving-too_often (c.loop-turn.invariant.serving _ (Beg
 
 pub returns-in-Err-clause-err : goal.returns-in-Err-clause-err
 returns-in-Err-clause-err g c =
-    Serving-read_failed _ (c.loop-turn.invariant.serving _ (Begins-refl _))
-    c.in-Err.ensures.reads.0 c.in-Err.ensures.reads.1 c.in-Err.ensures.reads.2
+    Serving-read_failed _ (c.loop-turn.invariant.serving _ (Begins-refl _)) c.in-Err.ensures
 
-pub returns-then-n-eq0-clause-ok : goal.returns-then-n-eq0-clause-ok
-returns-then-n-eq0-clause-ok g c =
-    let room : 0 < length c.read.new.buf =
-    omega (arith, c.loop-turn.invariant.room, c.read.auto.buf) in
-    let read = c.in-Ok.ensures.reads in
-    Serving-all _ (c.loop-turn.invariant.serving _ (Begins-refl _)) c.read.new.buf
-    c.served_by.ensures c.if-n-eq0.true read.2
-    read.0 (read.1 c.if-n-eq0.true room) read.3
+pub returns-in-None-clause-ok : goal.returns-in-None-clause-ok
+returns-in-None-clause-ok g c =
+    Serving-all _ (c.loop-turn.invariant.serving _ (Begins-refl _)) c.served_by.ensures
+    c.in-None.ensures

@@ -1,4 +1,4 @@
-use Rattle.std.proofs.Common.{◌≡◌, List, length}
+use Rattle.std.proofs.Common.{List}
 use Rattle.unftp_control_serve.specs.Endings.{snapshot_of}
 use Rattle.unftp_control_serve.specs.Writing.{Begins}
 use Rattle.unftp_control_defs.specs.Input.{input_state_of}
@@ -16,5 +16,4 @@ invariant-loop-turn g l = record {
       (input_state_of g.R.Read.remaining l.fn.reader)
       (input_state_of g.R.Read.remaining l.reader)
       l.engine l._turn;
-  room : length l.piece ≡ 4096;
 }
