@@ -10,7 +10,7 @@ ghost use Rattle.unftp_control_write.specs.Forwarding.{LacksRoomFor};
 ghost use Rattle.unftp_control_proxy.specs.ProxyAnswers.{answer_reply, is_answer};
 ghost use Rattle.unftp_control_serve.specs.ClientLines.{first_client_line, front_line};
 ghost use Rattle.unftp_control_serve.specs.Decoder.{kept_length, line_in};
-ghost use Rattle.unftp_control_proxy.specs.ProxyCalls.{AnsweredBy, Fate, IsDecidable, IsFull, stops, waits, IsLookedFor};
+ghost use Rattle.unftp_control_proxy.specs.ProxyCalls.{AnsweredBy, Fate, IsDecidable, IsFull, IsLookedFor, stops, waits};
 ghost use Rattle.unftp_control_proxy.specs.Traffic.{IsTraffic, one_line, sent_for};
 ghost use Rattle.unftp_control_proxy.specs.Filtering.{AreFiltered, Becomes, IsAsked, IsLineStep, LineStep, Reply as ReplyStep, Send, decision_of, fate_by, forward_or_refuse, step_for, told_of};
 

@@ -43,7 +43,7 @@ pub(crate) enum First {
 /// an event loop of its own. A piece is pushed, and events are taken until there is none; between
 /// two of them the server does what it likes, and after the last it may clear what is pending.
 ///
-/// What reads no commands, as a proxy, takes the lines themselves: `find_line` finds the first,
+/// What reads no commands, such as a proxy, takes the lines themselves: `find_line` finds the first,
 /// `found_line` returns its bytes, and `take_line` takes it, as late as the caller likes.
 // There is no line feed between the first pending byte and the codec's scan offset, which counts
 // from there. Where the codec has a limit, it keeps no bytes of a line that is longer: they are
@@ -300,6 +300,7 @@ impl EventDecoder {
         ensures limit { self.new.limit ≡ self.old.limit }
         ensures held { self.new.held ≡ self.old.held }
         ensures found { OnOk result (self.new.found ≡ false) }
+        ensures stays_found { OnErr result (self.new.found ≡ true) }
         // no byte is scanned twice, also where the line stays
         ensures scanned { self.new.scanned + self.new.unscanned ≡ self.old.scanned + self.old.unscanned }
         // out of memory is returned only for a complete line that may take some
