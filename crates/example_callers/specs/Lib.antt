@@ -10,3 +10,8 @@ pub mod ExampleTalks
 pub mod Pieces
 pub mod FactList
 pub mod WholeLine
+pub mod DataAnswers
+pub mod Transfers
+pub mod CameTo
+pub mod TransferLaws
+pub mod TransferExamples

@@ -10,6 +10,7 @@ pub mod fact_list;
 pub mod first;
 pub mod handler;
 pub mod lines;
+pub mod member_file;
 pub mod members;
 pub mod no_files;
 pub mod pieces;

@@ -3,7 +3,7 @@ use crate::answers::{Answered, Answers};
 use crate::handlers::{Pieces, Room, Scripted, Turns, Wire};
 use crate::shown::Quoted;
 use crate::words::{CaseError, Word, Words, read_limit};
-use example_transfers::Transfers;
+use example_callers::transfers::Transfers;
 use std::alloc::Global;
 use std::fmt::Display;
 use std::num::NonZeroUsize;
