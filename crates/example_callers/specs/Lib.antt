@@ -15,3 +15,6 @@ pub mod Transfers
 pub mod CameTo
 pub mod TransferLaws
 pub mod TransferExamples
+pub mod Log
+pub mod Allowed
+pub mod Relays

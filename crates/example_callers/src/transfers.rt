@@ -1,7 +1,6 @@
 //! A session that transfers a file over the caller's data connection.
 mod answers;
 mod data;
-pub mod examples;
 pub mod laws;
 mod session;
 mod transfer;
