@@ -10,9 +10,9 @@ from typing import NamedTuple
 
 VECTORS = pathlib.Path(__file__).resolve().parents[2] / "vectors"
 # the files whose rows begin with a name and a number of allocations
-BY_HAND = ["worked.tsv", "sessions.tsv"]
+BY_HAND = ["worked.tsv", "sessions.tsv", "relays.tsv"]
 # how many columns a row has before its case; the first of them is its name
-BEFORE = {"worked.tsv": 2, "sessions.tsv": 2, "programs.tsv": 1}
+BEFORE = {"worked.tsv": 2, "sessions.tsv": 2, "relays.tsv": 2, "programs.tsv": 1}
 
 # how many bytes are shown before what differs and after it, how many of it at most, and how many rows
 AROUND, MOST, FEW = 30, 60, 5

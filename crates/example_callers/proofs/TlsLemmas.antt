@@ -7,7 +7,7 @@ use Rattle.unftp_control.specs.Decoder.{saturating_u64}
 use Rattle.unftp_control.specs.Run.{after_end, ends_for, text_for, unread, as_session}
 use Rattle.unftp_control.specs.Input.{InputState}
 use Rattle.unftp_control.specs.Writing.{OutputState}
-use Rattle.example_callers.proofs.Computing.{at_bytes}
+use Rattle.unftp_control_defs.proofs.Computing.{at_bytes}
 use Rattle.example_callers.specs.UntilTls.{BeginsTls, until_tls}
 
 -- an input that AUTH TLS ends, one that it doesn't end, and one without it

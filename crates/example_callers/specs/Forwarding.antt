@@ -1,9 +1,7 @@
--- Which lines a proxy forwards, and what a client is replied where it doesn't.
-use Rattle.std.specs.Prelude.{◌≡◌, Bool, true, false, Ok, Err, IsOk, codes}
+-- What a client is replied where a proxy doesn't forward its line.
+use Rattle.std.specs.Prelude.{◌≡◌, Err, IsOk, codes}
 use Rattle.unftp_control.specs.Bytes.{Bytes}
-use Rattle.unftp_control.specs.FtpCommand.{Answer, Refusal, said}
-use Rattle.unftp_control.specs.declared.parts.Verb.{Verb}
-use Rattle.unftp_control.specs.declared.parts.Verb.TheVariants as verb
+use Rattle.unftp_control.specs.FtpCommand.{Refusal}
 use Rattle.unftp_control.specs.Lines.{IsLine}
 use Rattle.unftp_control.specs.Outcome.{outcome}
 
@@ -15,18 +13,3 @@ pub data IsReplyInPlace (line reply : Bytes) : Type 0 where
       → reply ≡ codes "500 Not understood\r\n" → IsReplyInPlace line reply
   out_of_memory : IsOk (outcome line)
       → reply ≡ codes "421 Out of memory\r\n" → IsReplyInPlace line reply
-
--- the verbs that get a file, or ask about one; not MDTM, by which some servers set a file's time
-abbrev pub reads : Verb → Bool
-reads verb.Retr = true
-reads verb.List = true
-reads verb.Nlst = true
-reads verb.Mlst = true
-reads verb.Mlsd = true
-reads verb.Size = true
-reads _ = false
-
--- the line is a command of such a verb
-abbrev pub only_reads : Answer → Bool
-only_reads (Ok command) = reads (said command).verb
-only_reads (Err refusal) = false

@@ -10,3 +10,11 @@ pub mod ExampleTalks
 pub mod Pieces
 pub mod FactList
 pub mod WholeLine
+pub mod DataAnswers
+pub mod Transfers
+pub mod CameTo
+pub mod TransferLaws
+pub mod TransferExamples
+pub mod Log
+pub mod Allowed
+pub mod Relays

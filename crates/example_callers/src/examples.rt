@@ -1,22 +1,25 @@
 //! Examples of the definitions of this crate, worked out by hand: values for which each holds and
 //! values for which it doesn't.
 ghost use Rattle.std.specs.Prelude.{◌≡◌, Bool, [], ◌∷◌, None, Some, codes, false, true};
+ghost use Rattle.example_callers.specs.Allowed.{only_reads};
 ghost use Rattle.example_callers.specs.EventLoop.{loop_replies, turn_after};
 ghost use Rattle.example_callers.specs.FactList.{facts_asked, facts_text};
-ghost use Rattle.example_callers.specs.Forwarding.{IsReplyInPlace, only_reads};
+ghost use Rattle.example_callers.specs.Forwarding.{IsReplyInPlace};
 ghost use Rattle.example_callers.specs.UntilTls.{BeginsTls, EndsWithAuth};
 ghost use Rattle.example_callers.specs.WholeLine.{AsksFor, all_facts, image_modes, modes_after, no_facts, reply_to};
 ghost use Rattle.unftp_control.specs.Bytes.{Bytes};
 ghost use Rattle.unftp_control.specs.Events.{Command, Refused, refusal_fault};
 ghost use Rattle.unftp_control.specs.FtpCommand.{Auth, Epsv, InvalidCommand, Pasv, Quit, Retr, TypeCode};
+ghost use Rattle.unftp_control.specs.Filtering.{AnswerWith, AsItIs, Forward};
 ghost use Rattle.unftp_control.specs.Forwarding.{IsForwardError, IsForwarded};
 ghost use Rattle.unftp_control.specs.FtpReply.{CodeAndMsg};
 ghost use Rattle.unftp_control.specs.Input.{InputState};
-ghost use Rattle.unftp_control.specs.Outcome.{outcome};
 ghost use Rattle.unftp_control.specs.Writing.{OutputState};
 ghost use Rattle.unftp_control.specs.declared.commands.AuthParam.TheVariants.{Ssl, Tls};
 
+pub mod log;
 pub mod sessions;
+pub mod transfers;
 
 use crate::event_loop::Turn;
 use crate::whole_line::{Asked, Modes};
@@ -57,12 +60,18 @@ pub fn clients_are_replied()
         → ⊥ }
 {}
 
-/// A line is let through for its command, however the verb is spelled.
+/// A line is let through for its command, however the verb is spelled. A refused one goes as it is
+/// for its verb, but for that of AUTH.
+#[tactic(auto, unfolding(unftp_control_defs::proofs::Computing::at_bytes))]
 pub fn lines_only_read()
-    ensures lower_case { only_reads (outcome (codes "retr a\n")) ≡ true }
-    ensures delete { only_reads (outcome (codes "DELE a\r\n")) ≡ false }
-    ensures time { only_reads (outcome (codes "MDTM 20010203040506 a\r\n")) ≡ false }
-    ensures refused { only_reads (outcome (codes "RETR\r\n")) ≡ false }
+    ensures lower_case { only_reads.says tt (codes "retr a\n") ≡ Forward }
+    ensures delete { only_reads.says tt (codes "DELE a\r\n")
+        ≡ AnswerWith (CodeAndMsg 502 (codes "Not allowed here")) }
+    ensures time { only_reads.says tt (codes "MDTM 20010203040506 a\r\n") ≡ Forward → ⊥ }
+    ensures refused { only_reads.says tt (codes "RETR\r\n") ≡ AsItIs }
+    ensures refused_delete { only_reads.says tt (codes "DELE\r\n") ≡ AsItIs → ⊥ }
+    ensures auth { only_reads.says tt (codes "AUTH\r\n")
+        ≡ AnswerWith (CodeAndMsg 500 (codes "Not understood")) }
 {}
 
 /// An event loop agrees to AUTH TLS only where nothing comes after its line.

@@ -1,61 +1,11 @@
-//! A file for who has logged in.
-ghost use Rattle.std.specs.Prelude.{ℕ, List, IfErr, IfOk, OnOk, Some};
-ghost use Rattle.example_callers.specs.Sessions.{snapshot};
-ghost use Rattle.example_transfers.specs.Answers.{DataAnswer};
-ghost use Rattle.example_transfers.specs.Transfers.{TransferState, at_start, transfers_law};
-ghost use Rattle.unftp_control.specs.Bytes.{Bytes};
-ghost use Rattle.unftp_control.specs.Gate.{Gated, closed, gated_law, limited_to};
-ghost use Rattle.unftp_control.specs.Input.{HasRead, input_state_of};
-ghost use Rattle.unftp_control.specs.Promises.{MembersAlone};
-ghost use Rattle.unftp_control.specs.Service.{ServeEnded, Serves};
-ghost use Rattle.unftp_control.specs.Writing.{HasWritten, output_state_of};
+//! A session that transfers a file over the caller's data connection.
+mod answers;
+mod data;
+pub mod laws;
+mod session;
+mod transfer;
 
-use crate::members::serve_members;
-use example_transfers::{DataConnection, Transfers, laws};
-use std::alloc::Global;
-use std::io::{Read, Write};
-use unftp_control::login::Accounts;
-use unftp_control::serve::{Input, Output, ServeError, Served};
-
-/// Serves a connection over which who has logged in retrieves a file, or stores it.
-pub fn serve_file<R: Read, W: Write, A: Accounts + Drop, D: DataConnection + Drop>(
-    alloc: Global,
-    reader: &mut Input<R>,
-    writer: &mut Output<W>,
-    accounts: A,
-    connection: D,
-    file: Vec<u8>,
-) -> Result<Served, ServeError>
-    // exactly the replies to the lines that were read are written, by what the data connection
-    // answered
-    ensures serves { (answers : List DataAnswer) × (state : Gated TransferState)
-        × (failures : ℕ) × IfOk result
-        (Serves (Some 4096) (gated_law (transfers_law answers))
-        (snapshot (limited_to 3 (closed (A.accepts accounts)
-        (at_start (D.answers connection) file.items))) 0 (output_state_of W.contents writer.old))
-        (snapshot state failures (output_state_of W.contents writer.new))
-        (input_state_of R.remaining reader.old) (input_state_of R.remaining reader.new)) }
-    // 150 and 226 come only after a name and a password that the accounts accept
-    ensures members { OnOk result ((read written : Bytes)
-        × HasRead (input_state_of R.remaining reader.old) (input_state_of R.remaining reader.new)
-        read
-        × HasWritten (output_state_of W.contents writer.old) (output_state_of W.contents writer.new)
-        written
-        × MembersAlone (Some 4096) (A.accepts accounts) read written) }
-    ensures err { (answers : List DataAnswer) × (state : Gated TransferState)
-        × (failures : ℕ) × IfErr result
-        (ServeEnded (Some 4096) (gated_law (transfers_law answers))
-        (snapshot (limited_to 3 (closed (A.accepts accounts)
-        (at_start (D.answers connection) file.items))) 0 (output_state_of W.contents writer.old))
-        (snapshot state failures (output_state_of W.contents writer.new))
-        (input_state_of R.remaining reader.old) (input_state_of R.remaining reader.new)) }
-{
-    laws::transfers_are_exchanges();
-    serve_members(
-        alloc,
-        reader,
-        writer,
-        accounts,
-        Transfers::new(connection, file),
-    )
-}
+pub use answers::Answers;
+pub use data::DataConnection;
+pub use session::{Transfers, serve_transfers};
+pub use transfer::{Ending, Transfer};

@@ -6,7 +6,7 @@ ghost use Rattle.unftp_control_message.specs.ReplyMeaning.{reply_of};
 ghost use Rattle.unftp_control_serve.specs.EventMeaning.{event_meant};
 ghost use Rattle.vector_replay.specs.Script.{ScriptState, command_reply, event_reply, is_help, script_law};
 
-use example_transfers::{Answers, DataConnection};
+use example_callers::transfers::{Answers, DataConnection};
 use itoa::Buffer;
 use std::alloc::{AllocError, Global};
 use std::io;

@@ -8,6 +8,7 @@ mod decoding;
 mod handlers;
 mod lines;
 mod reading;
+mod relaying;
 mod replies;
 mod sessions;
 mod shown;
@@ -49,6 +50,8 @@ fn make_call(name: &str, words: &mut Words<'_>, answers: &mut Answers) -> Answer
         "single_line" => replies::answer_single_line(words, answers),
         "serve" => sessions::answer_session(true, words, answers),
         "feed" => sessions::answer_session(false, words, answers),
+        "log_lines" => sessions::answer_log_lines(words, answers),
+        "relay" => relaying::answer_relay(words, answers),
         _ => Err(CaseError::NoCase),
     }
 }

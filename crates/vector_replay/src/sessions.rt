@@ -3,7 +3,8 @@ use crate::answers::{Answered, Answers};
 use crate::handlers::{Pieces, Room, Scripted, Turns, Wire};
 use crate::shown::Quoted;
 use crate::words::{CaseError, Word, Words, read_limit};
-use example_transfers::Transfers;
+use example_callers::log::log_lines;
+use example_callers::transfers::Transfers;
 use std::alloc::Global;
 use std::fmt::Display;
 use std::num::NonZeroUsize;
@@ -132,49 +133,92 @@ fn feed<H: Session, K: Sink>(
     drop(engine);
 }
 
-/// Writes how the session goes by this handler. One that ran out of memory is marked.
+/// The streams of a session, and how each of its calls ended.
+#[derive(Drop)]
+struct Streams<'a> {
+    reader: Pieces<'a, 'a>,
+    room: Room<'a>,
+    ends: String,
+}
+
+impl<'a> Streams<'a> {
+    /// Those of this session, with the memory that is not the calls' own.
+    fn new(case: &SessionCase<'a>) -> Result<Streams<'a>, CaseError> {
+        let calls = case.pieces.len().saturating_add(8);
+        let reserved = if case.has("appended") {
+            case.first.len()
+        } else {
+            ROOM
+        };
+        Ok(Streams {
+            reader: Pieces {
+                rest: case.first,
+                reads: 0,
+                step: usize::MAX,
+                turns: case.turns("reads"),
+            },
+            room: Room {
+                held: Vec::with_capacity(case.alloc, reserved)?,
+                flushed: 0,
+                writes: case.turns("writes"),
+                flushes: case.turns("flushes"),
+            },
+            ends: String::with_capacity(case.alloc, ENDS.saturating_mul(calls))?,
+        })
+    }
+
+    /// Writes how the calls ended, and what was written and read. Calls that ran out of memory are
+    /// marked.
+    fn put(&self, case: &SessionCase<'_>, answers: &mut Answers) -> Answered {
+        let (ends, written) = (self.ends.as_str(), Quoted(self.room.held.as_slice()));
+        if ends.contains("OutOfMemory") {
+            answers.mark(format_args!("{ends}written={written}\n"));
+            return Err(CaseError::OutOfMemory);
+        }
+        answers.put(format_args!("{ends}written={written} flushed={}", self.room.flushed));
+        if case.is_served {
+            let (reads, unread) = (self.reader.reads, Quoted(self.reader.rest));
+            answers.put(format_args!(" reads={reads} unread={unread}"));
+        }
+        Ok(())
+    }
+}
+
+/// Writes how the session goes by this handler.
 fn put_session<H: Session>(
     case: &SessionCase<'_>,
     handler: &mut H,
     answers: &mut Answers,
 ) -> Answered {
-    let (alloc, calls) = (case.alloc, case.pieces.len().saturating_add(8));
-    let mut ends = String::with_capacity(alloc, ENDS.saturating_mul(calls))?;
-    let is_appended = case.has("appended");
-    let reserved = if is_appended { case.first.len() } else { ROOM };
-    let mut room = Room {
-        held: Vec::with_capacity(alloc, reserved)?,
-        flushed: 0,
-        writes: case.turns("writes"),
-        flushes: case.turns("flushes"),
-    };
-    let mut reader = Pieces {
-        rest: case.first,
-        reads: 0,
-        step: usize::MAX,
-        turns: case.turns("reads"),
-    };
+    let mut streams = Streams::new(case)?;
+    let (room, ends) = (&mut streams.room, &mut streams.ends);
     answers.begin();
     if case.is_served {
-        serve_all(case, &mut reader, &mut room, handler, &mut ends);
-    } else if is_appended {
+        serve_all(case, &mut streams.reader, room, handler, ends);
+    } else if case.has("appended") {
         // there is room for them
         let _ = room.held.extend_from_slice(case.first);
-        feed(case, &mut room.held, handler, &mut ends);
+        feed(case, &mut room.held, handler, ends);
     } else {
-        feed(case, &mut Output::new(&mut room), handler, &mut ends);
+        feed(case, &mut Output::new(room), handler, ends);
     }
-    let written = Quoted(room.held.as_slice());
-    if ends.contains("OutOfMemory") {
-        answers.mark(format_args!("{ends}written={written}\n"));
-        return Err(CaseError::OutOfMemory);
+    streams.put(case, answers)
+}
+
+/// `log_lines WORD.. INPUT`
+pub fn answer_log_lines(words: &mut Words<'_>, answers: &mut Answers) -> Answered {
+    let case = SessionCase::read(answers.alloc, true, words)?;
+    let mut streams = Streams::new(&case)?;
+    let (mut reader, mut writer) = (
+        Input::new(&mut streams.reader),
+        Output::new(&mut streams.room),
+    );
+    answers.begin();
+    match log_lines(case.alloc, &mut reader, &mut writer) {
+        Ok(()) => note(&mut streams.ends, "ok", false),
+        Err(error) => note(&mut streams.ends, format_args!("{error:?}"), false),
     }
-    answers.put(format_args!("{ends}written={written} flushed={}", room.flushed));
-    if case.is_served {
-        let (reads, unread) = (reader.reads, Quoted(reader.rest));
-        answers.put(format_args!(" reads={reads} unread={unread}"));
-    }
-    Ok(())
+    streams.put(&case, answers)
 }
 
 /// `serve WORD.. INPUT`, or `feed WORD.. PIECE..`

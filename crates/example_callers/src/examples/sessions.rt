@@ -1,5 +1,5 @@
 //! Examples of what whole sessions, pieces, event loops and readers of replies come to.
-#![tactic(auto, unfolding(crate::proofs::Computing::at_bytes))]
+#![tactic(auto, unfolding(unftp_control_defs::proofs::Computing::at_bytes))]
 
 ghost use Rattle.std.specs.Prelude.{◌≡◌, ℕ, Bool, List, [], ◌∷◌, ◌++◌, Some, None, Ok, Err, codes, true, false};
 ghost use Rattle.std.specs.Io.KnownBytes.{Appends, IsAtEnd};

@@ -4,7 +4,7 @@ use Rattle.unftp_control.specs.Bytes.{Bytes}
 use Rattle.unftp_control.specs.FtpCommand.{Answer, InvalidCommand, Noop, Refusal}
 use Rattle.unftp_control.specs.Outcome.{outcome}
 use Rattle.unftp_control.proofs.LineLemmas.{Lines-lines_of}
-use Rattle.example_callers.proofs.Computing.{at_bytes}
+use Rattle.unftp_control_defs.proofs.Computing.{at_bytes}
 use Rattle.example_callers.specs.Forwarding.{IsReplyInPlace, not_a_line, refused, out_of_memory}
 use Rattle.example_callers.proofs.examples.clients_are_replied.Goals as goal
 

@@ -5,7 +5,7 @@ use Rattle.unftp_control.specs.FtpCommand.{Noop}
 use Rattle.unftp_control.specs.Lines.{incomplete_line, lines_of}
 use Rattle.unftp_control.specs.TakingSteps.{TakesEvent}
 use Rattle.unftp_control.proofs.LineLemmas.{Lines-lines_of}
-use Rattle.example_callers.proofs.Computing.{at_bytes}
+use Rattle.unftp_control_defs.proofs.Computing.{at_bytes}
 use Rattle.example_callers.proofs.ExampleLemmas.{first_taken}
 use Rattle.example_callers.proofs.examples.sessions.lines_are_left_so.Goals as goal
 

@@ -17,7 +17,7 @@ use Rattle.example_callers.specs.FactList.{facts_asked}
 use Rattle.example_callers.specs.WholeLine.{AsksFor, modes_after, reply_to}
 use Rattle.example_callers.specs.declared.whole_line.Asked.{Asked}
 use Rattle.example_callers.specs.declared.whole_line.Asked.TheVariants.{Ascii, Image, EpsvOnly, FactsOnly, Nothing}
-use Rattle.example_callers.proofs.Computing.{at_bytes}
+use Rattle.unftp_control_defs.proofs.Computing.{at_bytes}
 use Rattle.example_callers.proofs.ExampleLemmas.{first_taken}
 use Rattle.example_callers.proofs.examples.sessions.types_are_answered_so.Goals as goal
 

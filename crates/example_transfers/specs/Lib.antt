@@ -1,5 +1,0 @@
-pub mod Answers
-pub mod Transfers
-pub mod CameTo
-pub mod Laws
-pub mod Examples
