@@ -1,12 +1,11 @@
 -- Logs that are put together: line by line, and piece by piece.
-use Rattle.std.proofs.Common.{◌≡◌, ℕ, ◌<◌, ◌≤◌, ◌+◌, ◌-◌, ◌^◌, List, [], ◌∷◌, ◌++◌, length, take, Option, Some, Ok, inl, inr, refl, sym, ap, subst, ◌∙◌, arith, append_assoc, append-nil, length-append}
+use Rattle.std.proofs.Common.{◌≡◌, ℕ, ◌<◌, ◌≤◌, ◌+◌, ◌-◌, ◌^◌, List, [], ◌∷◌, ◌++◌, length, Option, Some, inl, inr, refl, sym, ap, subst, ◌∙◌, arith, append_assoc, append-nil, length-append}
 use Rattle.std.specs.Prelude.{◌⊎◌, if◌then◌else◌}
 use Rattle.std.specs.List.{concat}
-use Rattle.std.proofs.lemmas.List.{length-take-le}
 use Rattle.std.proofs.lemmas.List.Concat.{flat_map-append}
 use Rattle.unftp_control_defs.specs.Bytes.{Bytes, LF}
 use Rattle.unftp_control_defs.specs.Events.{FtpEvent}
-use Rattle.unftp_control_defs.specs.Input.{InputState, HasRead, OneRead, WereRead}
+use Rattle.unftp_control_defs.specs.Input.{InputState, ReadFails, ReadsEnd, ReadsPiece, WereRead}
 use Rattle.unftp_control_defs.specs.Lines.{lines_of, incomplete_line}
 use Rattle.unftp_control_defs.specs.TakingSteps.{TakesEvent}
 use Rattle.unftp_control_defs.proofs.InputLemmas.{WereRead-more, WereRead-no_more, concat-more}
@@ -125,38 +124,28 @@ module _ {limit : Option ℕ} {before now : OutputState} {i j : InputState} {dec
   pub Logging-too_often : 2 ^ 64 - 1 ≤ turn → LogEnded limit before now i j error.TooManyReads
   Logging-too_often many = (so_far.all, omega (arith, many, so_far.turns))
 
-  -- a read gave nothing, or failed
-  pub Logging-nothing : {k : InputState} (reads : List ℕ) {failed : ℕ} → HasRead j k []
-      → k.reads ≡ j.reads ++ reads → k.failures ≡ j.failures + failed
-      → LogsAll limit before now i k reads failed
-  Logging-nothing reads nothing more counted = record {
+  -- a read came to the end, or failed
+  pub Logging-end : {k : InputState} → ReadsEnd j k → LogsAll limit before now i k (0 ∷ []) 0
+  Logging-end end = record {
     pieces = so_far.all.pieces;
-    were_read = WereRead-no_more so_far.all.were_read reads nothing more;
+    were_read = WereRead-no_more so_far.all.were_read (0 ∷ []) end.given end.reads;
     sent = so_far.all.sent;
-    reads_failed = omega (arith, counted, so_far.all.reads_failed);
+    reads_failed = omega (arith, end.failures, so_far.all.reads_failed);
   }
 
-  -- a read gave this piece
-  pub record GavePiece (k : InputState) (piece : Bytes) : Type 0 where
-    pub were_read : WereRead i k (so_far.all.pieces ++ piece ∷ []) []
-    pub some : 0 < length piece
-    pub no_read_failed : k.failures ≡ i.failures
+  pub Logging-failed : {k : InputState} → ReadFails j k → LogsAll limit before now i k [] 1
+  Logging-failed fails = record {
+    pieces = so_far.all.pieces;
+    were_read = WereRead-no_more so_far.all.were_read [] fails.given
+        (fails.reads ∙ sym (append-nil j.reads));
+    sent = so_far.all.sent;
+    reads_failed = omega (arith, fails.failures, so_far.all.reads_failed);
+  }
 
-  -- where it is the start of a buffer of 4,096 bytes
-  pub gave_piece : {n : ℕ} (buffer : Bytes) {piece : Bytes} {k : InputState}
-      → OneRead {E = Unit {0}} (Ok n) buffer j k → piece ≡ take n buffer
-      → (n ≡ 0 → ⊥) → (n ≤ length buffer) × (length buffer ≡ 4096) → GavePiece k piece
-  gave_piece {n} buffer {piece} read front some within =
-      let size : length piece ≡ n = ap length front ∙ length-take-le n buffer within.0 in
-      let more : 0 < length piece = omega (arith, some, size) in
-      record {
-        were_read = WereRead-more so_far.all.were_read piece (rw (sym front) at read.0)
-            (rw size read.2) (more, omega (arith, within, size));
-        some = more;
-        no_read_failed = omega (arith, read.3, so_far.all.reads_failed);
-      }
+  module _ {k : InputState} {piece : Bytes} (read : ReadsPiece j k piece) where
+    were_read : WereRead i k (so_far.all.pieces ++ piece ∷ []) []
+    were_read = WereRead-more so_far.all.were_read piece read
 
-  module _ {k : InputState} {piece : Bytes} (read : GavePiece k piece) where
     -- the log stopped in it
     module _ {after : OutputState} where
       in_last : {failure : ServeError} → ((failure ≡ error.OutOfMemory) × (after ≡ now))
@@ -165,11 +154,11 @@ module _ {limit : Option ℕ} {before now : OutputState} {i j : InputState} {dec
       in_last stops = record {
         pieces = so_far.all.pieces;
         last = piece;
-        were_read = read.were_read;
+        were_read = were_read;
         between = now;
         sent = so_far.all.sent;
         stops = stops;
-        no_read_failed = read.no_read_failed;
+        no_read_failed = omega (arith, read.failures, so_far.all.reads_failed);
       }
 
       pub Logging-stops : (failure : ServeError) → ((failure ≡ error.OutOfMemory) × (after ≡ now))
@@ -199,17 +188,17 @@ module _ {limit : Option ℕ} {before now : OutputState} {i j : InputState} {dec
           record {
             all = record {
               pieces = so_far.all.pieces ++ piece ∷ [];
-              were_read = read.were_read;
+              were_read = were_read;
               sent = rw (whole, lines_of-append read_so_far piece)
                   (Sent-then limit (lines_of read_so_far) _ so_far.all.sent
                   (rw (limit_is, bytes_are) at sent));
-              reads_failed = omega (arith, read.no_read_failed);
+              reads_failed = omega (arith, read.failures, so_far.all.reads_failed);
             };
             pending = left ∙ ap incomplete_line bytes_are
                 ∙ sym (incomplete_line-append read_so_far piece) ∙ sym (ap incomplete_line whole);
             limited = kept ∙ limit_is;
             turns = rw whole
-                (omega (arith, so_far.turns, length-append read_so_far piece, read.some));
+                (omega (arith, so_far.turns, length-append read_so_far piece, read.size.0));
           }
 
       -- or the log stopped at one of them

@@ -12,13 +12,10 @@ ghost use Rattle.example_callers.specs.Log.{LogEnded, LogsAll, StopsAt, log_of};
 use std::alloc::{AllocError, Global};
 use std::io::{Read, Write};
 use unftp_control_log::write_log_line;
-use unftp_control_serve::{Event, EventDecoder, Input, Output, ServeError, Sink};
+use unftp_control_serve::{Event, EventDecoder, Input, Output, PIECE, ServeError, Sink};
 
 /// How many bytes a line may have, its line feed counted.
 const LIMIT: usize = 8192;
-
-/// How many bytes are read at most at once.
-const PIECE: usize = 4096;
 
 /// Makes the entry of an event: its log line and a line feed.
 fn make_entry(event: &Event, line: &[u8], entry: &mut Vec<u8>) -> Result<(), AllocError>
@@ -94,17 +91,14 @@ pub fn log_lines<R: Read, W: Write>(
 {
     let mut decoder = EventDecoder::with_limit(alloc, LIMIT);
     let mut entry = Vec::new(alloc);
-    let mut piece = [0u8; PIECE];
+    let mut room = [0u8; PIECE];
     for _turn in 0..u64::MAX {
-        let n = match reader.read(&mut piece) {
-            Ok(n) => n,
+        let piece = match reader.read_piece(&mut room) {
+            Ok(Some(piece)) => piece,
+            Ok(None) => return Ok(()),
             Err(error) => return Err(ServeError::Read(error)),
         };
-        if n == 0 {
-            return Ok(());
-        }
-        let (read, _) = piece.split_at(n);
-        decoder.push(read)?;
+        decoder.push(piece)?;
         log_pending(&mut decoder, &mut entry, writer)?;
     }
     Err(ServeError::TooManyReads)

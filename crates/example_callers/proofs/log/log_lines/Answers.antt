@@ -1,7 +1,7 @@
-use Rattle.std.proofs.Common.{[], ◌∷◌, ◌∙◌, append-nil, refl, sym, arith, inl}
+use Rattle.std.proofs.Common.{[], ◌∷◌, refl, arith, inl}
 use Rattle.std.proofs.lemmas.Result.{err_from_is_err_and}
 use Rattle.unftp_control_defs.proofs.InputLemmas.{WereRead-start}
-use Rattle.example_callers.proofs.LogLemmas.{Sent-nothing, Logging-stops_at, Logging-next, Logging-nothing, Logging-stops, Logging-too_often, gave_piece}
+use Rattle.example_callers.proofs.LogLemmas.{Sent-nothing, Logging-stops_at, Logging-end, Logging-failed, Logging-next, Logging-stops, Logging-too_often}
 use Rattle.example_callers.proofs.log.log_lines.Goals as goal
 
 pub loop-turn-init : goal.loop-turn-init
@@ -17,16 +17,11 @@ loop-turn-init g c = rw c.with_limit-decoder.ensures record {
   turns = omega arith;
 }
 
-pub returns-then-n-eq0-clause-ok : goal.returns-then-n-eq0-clause-ok
-returns-then-n-eq0-clause-ok g c =
-    let read = c.in-Ok.ensures.reads in
-    Logging-nothing c.loop-turn.invariant (0 ∷ []) (rw c.if-n-eq0.true at read.0)
-    (rw c.if-n-eq0.true at read.2) (omega (arith, read.3))
+pub returns-in-None-clause-ok : goal.returns-in-None-clause-ok
+returns-in-None-clause-ok g c = Logging-end c.loop-turn.invariant c.in-None.ensures
 
 pub returns-in-Err-clause-err : goal.returns-in-Err-clause-err
-returns-in-Err-clause-err g c =
-    let read = c.in-Err.ensures.reads in
-    Logging-nothing c.loop-turn.invariant [] read.0 (read.1 ∙ sym (append-nil _)) read.2
+returns-in-Err-clause-err g c = Logging-failed c.loop-turn.invariant c.in-Err.ensures
 
 pub returns-clause-err : goal.returns-clause-err
 returns-clause-err g c =
@@ -34,16 +29,14 @@ returns-clause-err g c =
 
 pub returns-in_err-push-clause-err : goal.returns-in_err-push-clause-err
 returns-in_err-push-clause-err g c =
-    let read = gave_piece c.loop-turn.invariant c.read.new.buf c.in-Ok.ensures.reads
-    c.split_at.ensures.front c.if-n-eq0.false (c.in-Ok.ensures.bound.0, omega arith) in
+    let read = c.in-Some.ensures in
     let error = err_from_is_err_and c.from_residual.result c.from_residual.ensures.1 in
     rw (error.1, error.2)
     (Logging-stops c.loop-turn.invariant read _ (inl (refl, refl)))
 
 pub returns-in_err-log_pending-clause-err : goal.returns-in_err-log_pending-clause-err
 returns-in_err-log_pending-clause-err g c =
-    let read = gave_piece c.loop-turn.invariant c.read.new.buf c.in-Ok.ensures.reads
-    c.split_at.ensures.front c.if-n-eq0.false (c.in-Ok.ensures.bound.0, omega arith) in
+    let read = c.in-Some.ensures in
     let error = err_from_is_err_and c.from_residual-in_err-log_pending.result
     c.from_residual-in_err-log_pending.ensures.1 in
     rw (error.1, error.2)
@@ -52,8 +45,7 @@ returns-in_err-log_pending-clause-err g c =
 
 pub loop-turn-preserved : goal.loop-turn-preserved
 loop-turn-preserved g c =
-    let read = gave_piece c.loop-turn.invariant c.read.new.buf c.in-Ok.ensures.reads
-    c.split_at.ensures.front c.if-n-eq0.false (c.in-Ok.ensures.bound.0, omega arith) in
+    let read = c.in-Some.ensures in
     let ensured = c.in_ok-log_pending.ensures in
     Logging-next c.loop-turn.invariant read c.in_ok-push.ensures.ok ensured.ok ensured.pending
     ensured.limit
