@@ -1,4 +1,4 @@
-use Rattle.unftp_control_read.specs.declared.receiving.TheConstants.{PIECE}
+use Rattle.unftp_control_defs.specs.declared.input.TheConstants.{PIECE}
 use Rattle.std.proofs.Common.{arith}
 use Rattle.unftp_control_read.proofs.BufferLemmas.{grown_by}
 use Rattle.unftp_control_read.proofs.receiving.add_room.Goals as goal

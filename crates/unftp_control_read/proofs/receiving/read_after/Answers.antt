@@ -1,6 +1,6 @@
 use Rattle.std.proofs.Common.{ℕ, take, length, replicate, sym, ap, ◌≡◌, ◌<◌, ◌∙◌, arith, length-append}
 use Rattle.std.proofs.lemmas.List.{length-replicate}
-use Rattle.unftp_control_read.specs.declared.receiving.TheConstants.{PIECE}
+use Rattle.unftp_control_defs.specs.declared.input.TheConstants.{PIECE}
 use Rattle.unftp_control_read.proofs.BufferLemmas.{read_part}
 use Rattle.unftp_control_read.proofs.receiving.read_after.Goals as goal
 
