@@ -11,28 +11,28 @@ use Rattle.unftp_control_defs.specs.TakingSteps.{TakesEvent}
 use Rattle.unftp_control_defs.proofs.InputLemmas.{WereRead-more, WereRead-no_more, concat-more}
 use Rattle.unftp_control_defs.proofs.LineLemmas.{incomplete_line-append, incomplete_line-incomplete, line_first, lines_of-append, lines_of-incomplete}
 use Rattle.unftp_control_log.specs.LogLine.{log_line, unless_too_long}
-use Rattle.unftp_control_serve.specs.Decoder.{HasNoLine, Pending, TakesLine, line_after, pushed}
+use Rattle.unftp_control_serve.specs.Decoder.{FindsNoLine, Pending, TakesLine, line_after, pushed}
 use Rattle.unftp_control_serve.specs.EventMeaning.{event_meant, refuses_length}
-use Rattle.unftp_control_serve.specs.Writing.{OutputState, SendFailed, Sent}
+use Rattle.unftp_control_serve.specs.Writing.{OutputState, SendFailed, IsSent}
 use Rattle.unftp_control_serve.specs.declared.error.ServeError.{ServeError}
 use Rattle.unftp_control_serve.specs.declared.error.ServeError.TheVariants as error
 use Rattle.unftp_control_serve.specs.declared.event.Event.{Event}
 use Rattle.unftp_control_serve.proofs.EventLineLemmas.{line_after-taken, refuses_length-exceeds}
-use Rattle.unftp_control_serve.proofs.SendLemmas.{HasWritten-nothing, HasWritten-then, Flushed-then}
+use Rattle.unftp_control_serve.proofs.SendLemmas.{HasWritten-nothing, HasWritten-then, IsFlushed-then}
 use Rattle.example_callers.specs.Log.{LogEnded, LogsAll, StopsAt, StopsInLast, log_entry, log_of}
 
-pub Sent-nothing : (output : OutputState) → Sent [] output output
-Sent-nothing output =
+pub IsSent-nothing : (output : OutputState) → IsSent [] output output
+IsSent-nothing output =
     record { written = HasWritten-nothing output; no_failure = refl; flushed = omega arith }
 
-Sent-then : (limit : Option ℕ) (lines more : List Bytes) {before between after : OutputState}
-    → Sent (log_of limit lines) before between → Sent (log_of limit more) between after
-    → Sent (log_of limit (lines ++ more)) before after
-Sent-then limit lines more {before} {between} {after} first second =
+IsSent-then : (limit : Option ℕ) (lines more : List Bytes) {before between after : OutputState}
+    → IsSent (log_of limit lines) before between → IsSent (log_of limit more) between after
+    → IsSent (log_of limit (lines ++ more)) before after
+IsSent-then limit lines more {before} {between} {after} first second =
     rw (flat_map-append (log_entry limit) lines more) record {
       written = HasWritten-then first.written second.written;
       no_failure = second.no_failure ∙ first.no_failure;
-      flushed = Flushed-then (log_of limit lines) (log_of limit more) [] before.unflushed
+      flushed = IsFlushed-then (log_of limit lines) (log_of limit more) [] before.unflushed
           between.unflushed after.unflushed first.flushed second.flushed;
     }
 
@@ -43,18 +43,19 @@ pub record Halfway (limit : Option ℕ) (bytes : Bytes) (pending : Pending)
   pub limited : pending.limit ≡ limit
   pub split : lines_of bytes ≡ logged ++ lines_of pending.bytes
   pub same_end : incomplete_line bytes ≡ incomplete_line pending.bytes
-  pub sent : Sent (log_of limit logged) before now
+  pub sent : IsSent (log_of limit logged) before now
 
 module _ {limit : Option ℕ} {bytes : Bytes} {p : Pending} {before now : OutputState}
     (so_far : Halfway limit bytes p before now) where
   -- no line is left
-  pub Halfway-all : {q : Pending} → HasNoLine p q → Sent (log_of limit (lines_of bytes)) before now
+  pub Halfway-all : {q : Pending} → FindsNoLine p q → IsSent
+      (log_of limit (lines_of bytes)) before now
   Halfway-all none =
       let all = so_far.split ∙ ap (λ lines. so_far.logged ++ lines)
       (lines_of-incomplete p.bytes none.unended) ∙ append-nil so_far.logged in
-      subst (λ lines. Sent (log_of limit lines) before now) (sym all) so_far.sent
+      subst (λ lines. IsSent (log_of limit lines) before now) (sym all) so_far.sent
 
-  pub Halfway-end : {q : Pending} → HasNoLine p q → q.bytes ≡ incomplete_line bytes
+  pub Halfway-end : {q : Pending} → FindsNoLine p q → q.bytes ≡ incomplete_line bytes
   Halfway-end none = none.same
       ∙ sym (so_far.same_end ∙ incomplete_line-incomplete p.bytes none.unended)
 
@@ -93,7 +94,7 @@ module _ {limit : Option ℕ} {bytes : Bytes} {p : Pending} {before now : Output
 
     -- the next line is logged
     pub Halfway-next : {after : OutputState} → q.limit ≡ p.limit
-        → Sent (log_line (event_meant event) line ++ LF ∷ []) now after
+        → IsSent (log_line (event_meant event) line ++ LF ∷ []) now after
         → Halfway limit bytes q before after
     Halfway-next {after} same sent =
         let line = first.takes.line in record {
@@ -103,8 +104,8 @@ module _ {limit : Option ℕ} {bytes : Bytes} {p : Pending} {before now : Output
               ∙ sym (append_assoc so_far.logged (line ∷ []) (lines_of q.bytes));
           same_end = so_far.same_end ∙ ap incomplete_line first.takes.whole
               ∙ (line_first line q.bytes first.takes.is_line).1;
-          sent = Sent-then limit so_far.logged (line ∷ []) so_far.sent
-              (subst (λ text. Sent text now after)
+          sent = IsSent-then limit so_far.logged (line ∷ []) so_far.sent
+              (subst (λ text. IsSent text now after)
               (entry_is ∙ sym (append-nil (log_entry limit line))) sent);
         }
 
@@ -180,7 +181,7 @@ module _ {limit : Option ℕ} {before now : OutputState} {i j : InputState} {dec
 
       -- they are logged
       pub Logging-next : {emptied : Pending} {after : OutputState}
-          → Sent (log_of full.limit (lines_of full.bytes)) now after
+          → IsSent (log_of full.limit (lines_of full.bytes)) now after
           → emptied.bytes ≡ incomplete_line full.bytes → emptied.limit ≡ full.limit
           → Logging limit before after i k emptied (turn + 1)
       Logging-next sent left kept =
@@ -190,7 +191,7 @@ module _ {limit : Option ℕ} {before now : OutputState} {i j : InputState} {dec
               pieces = so_far.all.pieces ++ piece ∷ [];
               were_read = were_read;
               sent = rw (whole, lines_of-append read_so_far piece)
-                  (Sent-then limit (lines_of read_so_far) _ so_far.all.sent
+                  (IsSent-then limit (lines_of read_so_far) _ so_far.all.sent
                   (rw (limit_is, bytes_are) at sent));
               reads_failed = omega (arith, read.failures, so_far.all.reads_failed);
             };

@@ -7,7 +7,7 @@ use Rattle.unftp_control_defs.specs.Bytes.{Bytes}
 use Rattle.unftp_control_defs.specs.FtpReply.{FtpReply, CodeAndMsg}
 use Rattle.unftp_control_serve.specs.Writing.{Begins}
 use Rattle.example_callers.specs.DataAnswers.{DataAnswer, Opened, Took, Gave, Closed, received_in, sent_in}
-use Rattle.example_callers.specs.Transfers.{Outcome, closing, ends_after, final_reply, with_opening, opening_reply, preceded_by, receiving, sending}
+use Rattle.example_callers.specs.Transfers.{TransferOutcome, closing, ends_after, final_reply, with_opening, opening_reply, preceded_by, receiving, sending}
 use Rattle.example_callers.specs.declared.transfers.transfer.Ending.{Ending}
 use Rattle.example_callers.specs.declared.transfers.transfer.Ending.TheVariants.{Complete, NotOpened, Aborted}
 
@@ -26,7 +26,7 @@ completed _ is = absurd (omega (arith, ap second_code is))
 -- ---- sending
 
 -- a beginning of the bytes was sent, and all of them at the complete ending
-pub record Sends (bytes : Bytes) (outcome : Outcome) : Type 0 where
+pub record Sends (bytes : Bytes) (outcome : TransferOutcome) : Type 0 where
   pub beginning : Begins bytes outcome.bytes
   pub all : outcome.ending ≡ Complete → outcome.bytes ≡ bytes
 
@@ -39,7 +39,7 @@ sends-closing : (answers : List DataAnswer) → Sends [] (closing answers)
 sends-closing (Closed ∷ answers) = record { beginning = ([], refl); all = λ _. refl }
 sends-closing _ = record { beginning = ([], refl); all = λ _. refl }
 
-sends-more : (bytes : Bytes) (n : ℕ) (outcome : Outcome) → Sends (drop n bytes) outcome
+sends-more : (bytes : Bytes) (n : ℕ) (outcome : TransferOutcome) → Sends (drop n bytes) outcome
     → Sends bytes (preceded_by 1 (take n bytes) outcome)
 sends-more bytes n outcome later = record {
   beginning = (
@@ -51,7 +51,7 @@ sends-more bytes n outcome later = record {
       ∙ take-append-drop n bytes;
 }
 
-sends-if : {bytes : Bytes} {outcome : Outcome} (same : Bool) → Sends bytes outcome
+sends-if : {bytes : Bytes} {outcome : TransferOutcome} (same : Bool) → Sends bytes outcome
     → Sends bytes (if same then outcome else ends_after 0 Aborted)
 sends-if true sends = sends
 sends-if {bytes} false sends = sends-nothing bytes Aborted 0 (λ is. absurd (cc))
@@ -75,14 +75,14 @@ take-one-more n answer answers = let one_more : n + 1 ≡ suc n = omega (arith) 
     ap (λ n. take n (answer ∷ answers)) one_more
 
 -- the connection took exactly these bytes in the used answers
-abbrev Takes : List DataAnswer → Outcome → Type 0
+abbrev Takes : List DataAnswer → TransferOutcome → Type 0
 Takes answers outcome = sent_in (take outcome.used answers) ≡ outcome.bytes
 
 closing-takes : (answers : List DataAnswer) → Takes answers (closing answers)
 closing-takes (Closed ∷ answers) = refl
 closing-takes _ = refl
 
-takes-if : (offered bytes : Bytes) (n : ℕ) (answers : List DataAnswer) (later : Outcome)
+takes-if : (offered bytes : Bytes) (n : ℕ) (answers : List DataAnswer) (later : TransferOutcome)
     → Takes answers later → (same : Bool) → bytes_eq offered bytes ≡ same
     → Takes (Took offered n ∷ answers)
     (if same then preceded_by 1 (take n bytes) later else ends_after 0 Aborted)
@@ -115,7 +115,7 @@ retrieve-takes bytes _ = refl
 -- ---- receiving
 
 -- it gave exactly these bytes in the used answers, and took none
-pub record Receives (answers : List DataAnswer) (outcome : Outcome) : Type 0 where
+pub record Receives (answers : List DataAnswer) (outcome : TransferOutcome) : Type 0 where
   pub gave : received_in (take outcome.used answers) ≡ outcome.bytes
   pub took : sent_in (take outcome.used answers) ≡ []
 
@@ -123,7 +123,7 @@ receives-closing : (answers : List DataAnswer) → Receives answers (closing ans
 receives-closing (Closed ∷ answers) = record { gave = refl; took = refl }
 receives-closing _ = record { gave = refl; took = refl }
 
-receives-more : (piece : Bytes) (answers : List DataAnswer) (later : Outcome)
+receives-more : (piece : Bytes) (answers : List DataAnswer) (later : TransferOutcome)
     → Receives answers later → Receives (Gave piece ∷ answers) (preceded_by 1 piece later)
 receives-more piece answers later receives = let more = take-one-more later.used (Gave piece) answers
     in record {

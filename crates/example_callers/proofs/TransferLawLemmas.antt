@@ -9,21 +9,21 @@ use Rattle.unftp_control_defs.specs.FtpReply.{FtpReply, CodeAndMsg, HasThreeDigi
 use Rattle.unftp_control_defs.specs.Turns.{GivesExchanges, SaysOnly, is_preliminary_reply}
 use Rattle.example_callers.specs.DataAnswers.{DataAnswer, received_in, sent_in}
 use Rattle.example_callers.specs.TransferLaws.{AtEvent, ComesBack, Retrieves, Stores, TransfersNothing, answers_for, state_after_event}
-use Rattle.example_callers.specs.Transfers.{Outcome, TransferState, final_reply, restart_reply, beyond_end_reply, first_reply, with_opening, opening_reply, receiving, sending, stored, transfer_of, transfers_law}
+use Rattle.example_callers.specs.Transfers.{TransferOutcome, TransferState, final_reply, restart_reply, beyond_end_reply, first_reply, with_opening, opening_reply, receiving, sending, stored, transfer_of, transfers_law}
 use Rattle.example_callers.specs.declared.transfers.transfer.Ending.{Ending}
 use Rattle.example_callers.specs.declared.transfers.transfer.Ending.TheVariants.{Complete}
 use Rattle.example_callers.proofs.OutcomeLemmas.{completed, retrieve-sends, retrieve-takes, store-receives}
 
-abbrev outcome_of_retr : List DataAnswer → TransferState → Outcome
+abbrev outcome_of_retr : List DataAnswer → TransferState → TransferOutcome
 outcome_of_retr answers s = with_opening (sending (drop s.offset s.file)) (drop s.used answers)
 
-abbrev outcome_of_stor : List DataAnswer → TransferState → Outcome
+abbrev outcome_of_stor : List DataAnswer → TransferState → TransferOutcome
 outcome_of_stor answers s = with_opening receiving (drop s.used answers)
 
 pub retrieves : (answers : List DataAnswer) (s : TransferState) (path : Bytes)
     → AtEvent Retrieves answers s (Command (line.Retr path))
 retrieves answers s path =
-    let outcome : Outcome = outcome_of_retr answers s in
+    let outcome : TransferOutcome = outcome_of_retr answers s in
     let rest = drop s.used answers in
     let sends = retrieve-sends (drop s.offset s.file) rest in
     let used : (s.used + outcome.used) - s.used ≡ outcome.used = omega arith in
@@ -48,7 +48,7 @@ stored-else offset file received _ not = refl
 pub stores : (answers : List DataAnswer) (s : TransferState) (path : Bytes)
     → AtEvent Stores answers s (Command (line.Stor path))
 stores answers s path =
-    let outcome : Outcome = outcome_of_stor answers s in
+    let outcome : TransferOutcome = outcome_of_stor answers s in
     let rest = drop s.used answers in
     let receives = store-receives rest in
     let used : (s.used + outcome.used) - s.used ≡ outcome.used = omega arith in

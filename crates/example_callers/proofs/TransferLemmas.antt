@@ -5,26 +5,28 @@ use Rattle.std.proofs.lemmas.Slice.Eq.{bytes_eq-Decides}
 use Rattle.unftp_control_defs.specs.Bytes.{Bytes}
 use Rattle.example_callers.specs.DataAnswers.{DataAnswer, Opened, Took, Gave, ReceiveFailed}
 use Rattle.example_callers.specs.CameTo.{CameTo, UnderWay, IsCutOff}
-use Rattle.example_callers.specs.Transfers.{Outcome, closing, ends_after, with_opening, preceded_by, receiving, sending}
+use Rattle.example_callers.specs.Transfers.{TransferOutcome, closing, ends_after, with_opening, preceded_by, receiving, sending}
 use Rattle.example_callers.specs.declared.transfers.transfer.Ending.{Ending}
 use Rattle.example_callers.specs.declared.transfers.transfer.Ending.TheVariants.{Aborted}
 
-pub opened : (transfer : List DataAnswer → Outcome) (before now : List DataAnswer)
+pub opened : (transfer : List DataAnswer → TransferOutcome) (before now : List DataAnswer)
     → now ≡ before ++ Opened ∷ [] → UnderWay (with_opening transfer) before now [] transfer
 opened transfer before now is =
     record { answers = Opened ∷ []; answered = is; goes_on = λ later. refl }
 
 -- it ends at one answer
-pub ended : {outcome : List DataAnswer → Outcome} {before : List DataAnswer} {ending : Ending}
+pub ended : {outcome : List DataAnswer
+    → TransferOutcome} {before : List DataAnswer} {ending : Ending}
     (after : List DataAnswer) (answer : DataAnswer) → after ≡ before ++ answer ∷ []
     → ((later : List DataAnswer) → outcome (answer ∷ later) ≡ ends_after 1 ending)
     → CameTo outcome before after ending []
 ended after answer is ends = record { answers = answer ∷ []; answered = is; came_to = ends }
 
-module _ {start : List DataAnswer → Outcome} {before now : List DataAnswer} {bytes : Bytes}
-    {rest : List DataAnswer → Outcome} (s : UnderWay start before now bytes rest) where
+module _ {start : List DataAnswer → TransferOutcome} {before now : List DataAnswer} {bytes : Bytes}
+    {rest : List DataAnswer → TransferOutcome} (s : UnderWay start before now bytes rest) where
   -- with one answer more
-  pub one_more : {rest' : List DataAnswer → Outcome} (now' : List DataAnswer) (answer : DataAnswer)
+  pub one_more : {rest' : List DataAnswer → TransferOutcome} (now' : List DataAnswer)
+      (answer : DataAnswer)
       (piece : Bytes) → now' ≡ now ++ answer ∷ []
       → ((later : List DataAnswer) → rest (answer ∷ later) ≡ preceded_by 1 piece (rest' later))
       → UnderWay start before now' (bytes ++ piece) rest'
@@ -33,11 +35,12 @@ module _ {start : List DataAnswer → Outcome} {before now : List DataAnswer} {b
     answered = is ∙ ap (λ answers. answers ++ answer ∷ []) s.answered
         ∙ append_assoc before s.answers (answer ∷ []);
     goes_on = λ later.
-        let outcome : Outcome = rest' later in
+        let outcome : TransferOutcome = rest' later in
         let used : (outcome.used + 1) + length s.answers
         ≡ outcome.used + length (s.answers ++ answer ∷ []) =
         omega (arith, length-append s.answers (answer ∷ [])) in
-        let came : Outcome = preceded_by (length s.answers) bytes (preceded_by 1 piece outcome) in
+        let came : TransferOutcome = preceded_by (length s.answers) bytes
+            (preceded_by 1 piece outcome) in
         ap start (append_assoc s.answers (answer ∷ []) later)
         ∙ s.goes_on (answer ∷ later)
         ∙ ap (preceded_by (length s.answers) bytes) (goes later)
@@ -68,7 +71,7 @@ module _ {start : List DataAnswer → Outcome} {before now : List DataAnswer} {b
     came_to = λ later.
         let used : length came.answers + length s.answers ≡ length (s.answers ++ came.answers) =
         omega (arith, length-append s.answers came.answers) in
-        let outcome : ℕ → Bytes → Outcome =
+        let outcome : ℕ → Bytes → TransferOutcome =
         λ used bytes. record { ending = ending; used = used; bytes = bytes } in
         ap start (append_assoc s.answers came.answers later)
         ∙ s.goes_on (came.answers ++ later)

@@ -1,7 +1,7 @@
 -- Which lines of a client are sent to the server, and what is answered to the others.
 use Rattle.std.specs.Prelude.{⊤, Bool, true, false, if◌then◌else◌, Option, Some, None, Ok, Err, codes}
 use Rattle.unftp_control_defs.specs.Bytes.{Bytes}
-use Rattle.unftp_control_defs.specs.FtpCommand.{Answer, said, verbs}
+use Rattle.unftp_control_defs.specs.FtpCommand.{Outcome, said, verbs}
 use Rattle.unftp_control_defs.specs.FtpReply.{CodeAndMsg}
 use Rattle.unftp_control_defs.specs.Outcome.{outcome}
 use Rattle.unftp_control_defs.specs.Rules.{row_of}
@@ -54,7 +54,7 @@ may_go_as_it_is line = allows_word (row_of (upper (verb_of line)) verbs)
 
 -- A line that is a command is forwarded where its verb is allowed. One that is none is sent as it
 -- is, where it may go so.
-abbrev pub decided : Bytes → Answer → Decision
+abbrev pub decided : Bytes → Outcome → Decision
 decided line (Ok command) = if allows (said command).verb then Forward
     else AnswerWith (CodeAndMsg 502 (codes "Not allowed here"))
 decided line (Err refusal) = if may_go_as_it_is line then AsItIs

@@ -1,7 +1,7 @@
 -- A server with an event loop of its own: what it replies to each event, and what it does then.
 use Rattle.std.specs.Prelude.{◌≡◌, ◌⊎◌, List, [], ◌∷◌, ◌++◌, flat_map, codes}
 use Rattle.unftp_control.specs.Bytes.{Bytes}
-use Rattle.unftp_control.specs.Decoder.{HasNoLine, Pending, StaysPending}
+use Rattle.unftp_control.specs.Decoder.{FindsNoLine, Pending, StaysPending}
 use Rattle.unftp_control.specs.TakingSteps.{TakesEvent}
 use Rattle.unftp_control.specs.Events.{FtpEvent, Command, Refused}
 use Rattle.unftp_control.specs.FtpCommand.{Auth, Quit, Retr}
@@ -43,7 +43,7 @@ pub record AnswersEvent (before : Pending) (sent : Bytes) (turn : Turn) (after :
 -- No line is pending, and the server reads on; or the first line is answered.
 abbrev pub AnswersNext : Pending → Bytes → Turn → Pending → Bytes → Type 0
 AnswersNext before sent turn after sent' =
-    ((turn ≡ Read) × HasNoLine before after × (sent' ≡ sent))
+    ((turn ≡ Read) × FindsNoLine before after × (sent' ≡ sent))
     ⊎ AnswersEvent before sent turn after sent'
 
 -- Nothing is appended, though there is a first line: it stays, or is taken and not answered.

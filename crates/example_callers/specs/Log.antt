@@ -5,7 +5,7 @@ use Rattle.unftp_control_defs.specs.Bytes.{Bytes, LF}
 use Rattle.unftp_control_defs.specs.Input.{InputState, WereRead}
 use Rattle.unftp_control_defs.specs.Lines.{incomplete_line, lines_of}
 use Rattle.unftp_control_log.specs.LogLine.{logged}
-use Rattle.unftp_control_serve.specs.Writing.{OutputState, SendFailed, Sent}
+use Rattle.unftp_control_serve.specs.Writing.{OutputState, SendFailed, IsSent}
 use Rattle.unftp_control_serve.specs.declared.error.ServeError.{ServeError}
 use Rattle.unftp_control_serve.specs.declared.error.ServeError.TheVariants.{Read, Write, WriteZero, OutOfMemory, TooManyReads}
 
@@ -26,7 +26,7 @@ pub record StopsAt (limit : Option ℕ) (lines : List Bytes) (before after : Out
   pub later : List Bytes
   pub split : lines ≡ logged ++ line ∷ later
   pub between : OutputState
-  pub sent : Sent (log_of limit logged) before between
+  pub sent : IsSent (log_of limit logged) before between
   pub fails : SendFailed error (log_entry limit line) between after
 
 -- What a log under a limit on the length of a line comes to.
@@ -36,7 +36,7 @@ module _ (limit : Option ℕ) (before after : OutputState) (input input' : Input
   pub record LogsAll (more : List ℕ) (failed : ℕ) : Type 0 where
     pub pieces : List Bytes
     pub were_read : WereRead input input' pieces more
-    pub sent : Sent (log_of limit (lines_of (concat pieces))) before after
+    pub sent : IsSent (log_of limit (lines_of (concat pieces))) before after
     pub reads_failed : input'.failures ≡ input.failures + failed
 
   -- All lines of the pieces before the last one are logged. Then there was no memory for the last
@@ -46,7 +46,7 @@ module _ (limit : Option ℕ) (before after : OutputState) (input input' : Input
     pub last : Bytes
     pub were_read : WereRead input input' (pieces ++ last ∷ []) []
     pub between : OutputState
-    pub sent : Sent (log_of limit (lines_of (concat pieces))) before between
+    pub sent : IsSent (log_of limit (lines_of (concat pieces))) before between
     pub stops : ((error ≡ OutOfMemory) × (after ≡ between))
         ⊎ StopsAt limit (lines_of (incomplete_line (concat pieces) ++ last)) between after error
     pub no_read_failed : input'.failures ≡ input.failures

@@ -17,8 +17,8 @@ snapshot state failures output = record { state = state; failures = failures; ou
 abbrev pub unused_output : Option Bytes → OutputState
 unused_output written = record { taken = []; unflushed = 0; failures = 0; written = written }
 
-abbrev pub at_start : {S : Type 0} → S → ℕ → Option Bytes → Snapshot S
-at_start state failures written = snapshot state failures (unused_output written)
+abbrev pub snapshot_at_start : {S : Type 0} → S → ℕ → Option Bytes → Snapshot S
+snapshot_at_start state failures written = snapshot state failures (unused_output written)
 
 -- an input that was not used, over a reader with these bytes left
 abbrev pub unused_input : Option Bytes → InputState

@@ -4,7 +4,7 @@ use Rattle.unftp_control_defs.specs.Bytes.{Bytes}
 use Rattle.unftp_control_defs.specs.Events.{FtpEvent, Command}
 use Rattle.unftp_control_defs.specs.FtpCommand.{Retr, Stor}
 use Rattle.unftp_control_defs.specs.FtpReply.{FtpReply}
-use Rattle.unftp_control_defs.specs.Run.{after, said, turn}
+use Rattle.unftp_control_defs.specs.Run.{after, turn_replies, turn}
 use Rattle.unftp_control_serve.specs.Writing.{Begins}
 use Rattle.example_callers.specs.DataAnswers.{DataAnswer, received_in, sent_in}
 use Rattle.example_callers.specs.Transfers.{TransferState, final_reply, opening_reply, transfers_law}
@@ -16,7 +16,7 @@ module _ (answers : List DataAnswer) (s : TransferState) where
   state_after_event event = after (transfers_law answers) s event
 
   abbrev pub replies_to : FtpEvent → List FtpReply
-  replies_to event = said (turn (transfers_law answers) s event)
+  replies_to event = turn_replies (turn (transfers_law answers) s event)
 
   -- what the data connection answers to the calls for an event
   abbrev pub answers_for : FtpEvent → List DataAnswer

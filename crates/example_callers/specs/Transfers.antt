@@ -15,17 +15,17 @@ use Rattle.example_callers.specs.declared.transfers.session.Transfers.{Transfers
 -- ---- one transfer
 
 -- how it ended, after how many answers, and which bytes were transferred
-pub record Outcome : Type 0 where
+pub record TransferOutcome : Type 0 where
   pub ending : Ending
   pub used : ℕ
   pub bytes : Bytes
 
 -- after so many answers and no bytes
-abbrev pub ends_after : ℕ → Ending → Outcome
+abbrev pub ends_after : ℕ → Ending → TransferOutcome
 ends_after used ending = record { ending = ending; used = used; bytes = [] }
 
 -- after so many answers and these bytes
-abbrev pub preceded_by : ℕ → Bytes → Outcome → Outcome
+abbrev pub preceded_by : ℕ → Bytes → TransferOutcome → TransferOutcome
 preceded_by n bytes later = record {
   ending = later.ending;
   used = later.used + n;
@@ -34,13 +34,13 @@ preceded_by n bytes later = record {
 
 -- The connection is closed, then all is done. Here and below an answer to any other call is not
 -- used.
-abbrev pub closing : List DataAnswer → Outcome
+abbrev pub closing : List DataAnswer → TransferOutcome
 closing (Closed ∷ answers) = ends_after 1 Complete
 closing (CloseFailed ∷ answers) = ends_after 1 NotClosed
 closing _ = ends_after 0 NotClosed
 
 -- These bytes are offered, each time all that are left, until it took them, and then it is closed.
-abbrev pub sending : Bytes → List DataAnswer → Outcome
+abbrev pub sending : Bytes → List DataAnswer → TransferOutcome
 sending [] answers = closing answers
 sending (b ∷ bytes) (Took offered (suc n) ∷ answers) = if bytes_eq offered (b ∷ bytes)
     then preceded_by 1 (take (suc n) (b ∷ bytes)) (sending (drop (suc n) (b ∷ bytes)) answers)
@@ -51,22 +51,22 @@ sending (b ∷ bytes) (SendFailed ∷ answers) = ends_after 1 Aborted
 sending (b ∷ bytes) _ = ends_after 0 Aborted
 
 -- Bytes are received until it gives none, and then it is closed.
-abbrev pub receiving : List DataAnswer → Outcome
+abbrev pub receiving : List DataAnswer → TransferOutcome
 receiving (Gave [] ∷ answers) = preceded_by 1 [] (closing answers)
 receiving (Gave (b ∷ bytes) ∷ answers) = preceded_by 1 (b ∷ bytes) (receiving answers)
 receiving (ReceiveFailed ∷ answers) = ends_after 1 Aborted
 receiving _ = ends_after 0 Aborted
 
 -- First of all it is opened.
-abbrev pub with_opening : (List DataAnswer → Outcome) → List DataAnswer → Outcome
+abbrev pub with_opening : (List DataAnswer → TransferOutcome) → List DataAnswer → TransferOutcome
 with_opening transfer (Opened ∷ answers) = preceded_by 1 [] (transfer answers)
 with_opening transfer (OpenFailed ∷ answers) = ends_after 1 NotOpened
 with_opening transfer _ = ends_after 0 NotOpened
 
 -- a transfer of the file from here on
-abbrev pub outcome_of : Transfer → Bytes → List DataAnswer → Outcome
-outcome_of Retrieve bytes = with_opening (sending bytes)
-outcome_of Store bytes = with_opening receiving
+abbrev pub transfer_outcome : Transfer → Bytes → List DataAnswer → TransferOutcome
+transfer_outcome Retrieve bytes = with_opening (sending bytes)
+transfer_outcome Store bytes = with_opening receiving
 
 -- ---- the session
 
@@ -90,12 +90,12 @@ state_of answers transfers = record {
 }
 
 -- how often it failed
-abbrev pub failures_of : {D : Type 0} → Transfers D → ℕ
-failures_of transfers = transfers.failures
+abbrev pub transfer_failures : {D : Type 0} → Transfers D → ℕ
+transfer_failures transfers = transfers.failures
 
 -- before the first event
-abbrev pub at_start : List DataAnswer → Bytes → TransferState
-at_start answers file = record {
+abbrev pub new_transfer : List DataAnswer → Bytes → TransferState
+new_transfer answers file = record {
   pending = None;
   offset = 0;
   file = file;
@@ -151,7 +151,7 @@ stored offset file Complete received = take offset file ++ received
 stored offset file _ received = file
 
 -- The offset is of one transfer only.
-abbrev pub after_transfer : TransferState → Transfer → Outcome → TransferState
+abbrev pub after_transfer : TransferState → Transfer → TransferOutcome → TransferState
 after_transfer s Retrieve outcome = record s {
   pending = None;
   offset = 0;
@@ -166,9 +166,9 @@ after_transfer s Store outcome = record s {
 
 -- what the transfer that is to follow comes to, by all that the data connection answers in the
 -- session
-abbrev pub outcome_in : TransferState → Transfer → List DataAnswer → Outcome
+abbrev pub outcome_in : TransferState → Transfer → List DataAnswer → TransferOutcome
 outcome_in s transfer answers =
-    outcome_of transfer (drop s.offset s.file) (drop s.used answers)
+    transfer_outcome transfer (drop s.offset s.file) (drop s.used answers)
 
 -- the reply that follows, where a transfer does
 abbrev pub follow_up : TransferState → Option Transfer → List DataAnswer

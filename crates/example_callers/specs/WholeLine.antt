@@ -35,16 +35,16 @@ AsksFor text Nothing = (¬ SaysOneOf text (codes "TYPE A") (codes "TYPE A N"))
 
 -- After EPSV ALL, PORT and PASV are refused (RFC 2428, section 4). OPTS MLST is a line that the
 -- grammar refuses.
-abbrev pub reply_to : Bool → FtpEvent → Asked → FtpReply
-reply_to epsv_only (Command TypeCode) Ascii = CodeAndMsg 200 (codes "Type is A")
-reply_to epsv_only (Command TypeCode) Image = CodeAndMsg 200 (codes "Type is I")
-reply_to epsv_only (Command TypeCode) _ = CodeAndMsg 504 (codes "No such type")
-reply_to epsv_only (Command Epsv) EpsvOnly = CodeAndMsg 200 (codes "EPSV only")
-reply_to true (Command Pasv) _ = CodeAndMsg 503 (codes "EPSV only")
-reply_to true (Command (Port _)) _ = CodeAndMsg 503 (codes "EPSV only")
-reply_to epsv_only (Refused _) (FactsOnly facts) = CodeAndMsg 200 (facts_text facts)
-reply_to epsv_only (Command _) _ = CodeAndMsg 502 (codes "Not here")
-reply_to epsv_only (Refused _) _ = CodeAndMsg 500 (codes "Not understood")
+abbrev pub line_reply : Bool → FtpEvent → Asked → FtpReply
+line_reply epsv_only (Command TypeCode) Ascii = CodeAndMsg 200 (codes "Type is A")
+line_reply epsv_only (Command TypeCode) Image = CodeAndMsg 200 (codes "Type is I")
+line_reply epsv_only (Command TypeCode) _ = CodeAndMsg 504 (codes "No such type")
+line_reply epsv_only (Command Epsv) EpsvOnly = CodeAndMsg 200 (codes "EPSV only")
+line_reply true (Command Pasv) _ = CodeAndMsg 503 (codes "EPSV only")
+line_reply true (Command (Port _)) _ = CodeAndMsg 503 (codes "EPSV only")
+line_reply epsv_only (Refused _) (FactsOnly facts) = CodeAndMsg 200 (facts_text facts)
+line_reply epsv_only (Command _) _ = CodeAndMsg 502 (codes "Not here")
+line_reply epsv_only (Refused _) _ = CodeAndMsg 500 (codes "Not understood")
 
 abbrev pub modes_after : Modes → FtpEvent → Asked → Modes
 modes_after modes (Command TypeCode) Ascii = record modes { image = false }
@@ -76,4 +76,4 @@ pub record AnswersLine (before : Pending) (modes : Modes) (sent : Bytes)
   pub asked : Asked
   pub asks : AsksFor text asked
   pub modes_are : modes' ≡ modes_after modes (event_meant event) asked
-  pub appended : sent' ≡ sent ++ encoded (reply_to modes.epsv_only (event_meant event) asked)
+  pub appended : sent' ≡ sent ++ encoded (line_reply modes.epsv_only (event_meant event) asked)

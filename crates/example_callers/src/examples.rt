@@ -6,7 +6,7 @@ ghost use Rattle.example_callers.specs.EventLoop.{loop_replies, turn_after};
 ghost use Rattle.example_callers.specs.FactList.{facts_asked, facts_text};
 ghost use Rattle.example_callers.specs.Forwarding.{IsReplyInPlace};
 ghost use Rattle.example_callers.specs.UntilTls.{BeginsTls, EndsWithAuth};
-ghost use Rattle.example_callers.specs.WholeLine.{AsksFor, all_facts, image_modes, modes_after, no_facts, reply_to};
+ghost use Rattle.example_callers.specs.WholeLine.{AsksFor, all_facts, image_modes, modes_after, no_facts, line_reply};
 ghost use Rattle.unftp_control.specs.Bytes.{Bytes};
 ghost use Rattle.unftp_control.specs.Events.{Command, Refused, refusal_fault};
 ghost use Rattle.unftp_control.specs.FtpCommand.{Auth, Epsv, InvalidCommand, Pasv, Quit, Retr, TypeCode};
@@ -132,15 +132,15 @@ pub fn facts_are_asked()
 
 /// What a line asks is answered, and PASV and PORT are refused once EPSV ALL came.
 pub fn whole_lines_are_answered()
-    ensures image { reply_to false (Command TypeCode) Asked.Image
+    ensures image { line_reply false (Command TypeCode) Asked.Image
         ≡ CodeAndMsg 200 (codes "Type is I") }
-    ensures no_type { reply_to false (Command TypeCode) Asked.Nothing
+    ensures no_type { line_reply false (Command TypeCode) Asked.Nothing
         ≡ CodeAndMsg 504 (codes "No such type") }
-    ensures pasv { reply_to false (Command Pasv) Asked.Nothing
+    ensures pasv { line_reply false (Command Pasv) Asked.Nothing
         ≡ CodeAndMsg 502 (codes "Not here") }
-    ensures pasv_later { reply_to true (Command Pasv) Asked.Nothing
+    ensures pasv_later { line_reply true (Command Pasv) Asked.Nothing
         ≡ CodeAndMsg 503 (codes "EPSV only") }
-    ensures facts { reply_to false (Refused (refusal_fault InvalidCommand))
+    ensures facts { line_reply false (Refused (refusal_fault InvalidCommand))
         (Asked.FactsOnly no_facts) ≡ CodeAndMsg 200 (codes "MLST OPTS") }
     ensures remembered { modes_after image_modes (Command Epsv) Asked.EpsvOnly
         ≡ record { image = true; epsv_only = true; facts = all_facts } }

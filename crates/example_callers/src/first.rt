@@ -1,6 +1,6 @@
 //! What README shows first.
 ghost use Rattle.std.specs.Prelude.{◌≡◌, Some, OnOk};
-ghost use Rattle.example_callers.specs.Sessions.{SessionEnded, at_start, unused_input};
+ghost use Rattle.example_callers.specs.Sessions.{SessionEnded, snapshot_at_start, unused_input};
 ghost use Rattle.unftp_control.specs.Endings.{snapshot_of};
 ghost use Rattle.unftp_control.specs.Input.{input_state_of};
 ghost use Rattle.unftp_control.specs.Run.{text_for};
@@ -23,7 +23,7 @@ pub fn answer_client<R: Read, W: Write, H: Session>(
         result.1.given) }
     // and all that `serve_with_limit` says, at Ok and at each error
     ensures session { SessionEnded (Some 8192) (H.law (H.heard handler.new))
-        (at_start (H.state handler.old) (H.failures handler.old) (W.contents stream_out))
+        (snapshot_at_start (H.state handler.old) (H.failures handler.old) (W.contents stream_out))
         (snapshot_of H.state H.failures W.contents handler.new result.2)
         (unused_input (R.remaining stream_in)) (input_state_of R.remaining result.1) result.0 }
 {

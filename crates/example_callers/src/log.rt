@@ -6,7 +6,7 @@ ghost use Rattle.unftp_control_defs.specs.Input.{input_state_of};
 ghost use Rattle.unftp_control_defs.specs.Lines.{incomplete_line, lines_of};
 ghost use Rattle.unftp_control_log.specs.LogLine.{log_line};
 ghost use Rattle.unftp_control_serve.specs.EventMeaning.{event_meant};
-ghost use Rattle.unftp_control_serve.specs.Writing.{Sends, Sent, output_state_of};
+ghost use Rattle.unftp_control_serve.specs.Writing.{Sends, IsSent, output_state_of};
 ghost use Rattle.example_callers.specs.Log.{LogEnded, LogsAll, StopsAt, log_of};
 
 use std::alloc::{AllocError, Global};
@@ -46,7 +46,7 @@ fn log_pending<W: Write>(
     entry: &mut Vec<u8>,
     writer: &mut Output<W>,
 ) -> Result<(), ServeError>
-    ensures ok { OnOk result (Sent (log_of decoder.old.limit (lines_of decoder.old.bytes))
+    ensures ok { OnOk result (IsSent (log_of decoder.old.limit (lines_of decoder.old.bytes))
         (output_state_of W.contents writer.old) (output_state_of W.contents writer.new)) }
     ensures err { IfErr result (StopsAt decoder.old.limit (lines_of decoder.old.bytes)
         (output_state_of W.contents writer.old) (output_state_of W.contents writer.new)) }

@@ -2,7 +2,7 @@
 ghost use Rattle.std.specs.Prelude.{◌≡◌, [], None, Some, map, IfOk, OnOk, length};
 ghost use Rattle.std.specs.List.{concat};
 ghost use Rattle.example_callers.specs.Pieces.{AnswersPieces};
-ghost use Rattle.example_callers.specs.Sessions.{at_start};
+ghost use Rattle.example_callers.specs.Sessions.{snapshot_at_start};
 ghost use Rattle.unftp_control.specs.Decoder.{saturating_u64};
 ghost use Rattle.unftp_control.specs.Endings.{snapshot_of};
 ghost use Rattle.unftp_control.specs.Run.{unread, text_for};
@@ -50,7 +50,7 @@ pub fn replies_to_pieces<H: Session>(
         ≡ text_for None (H.law (H.heard handler.new)) (H.state handler.old)
         (concat (map (λ piece. piece.now) pieces.now))) }
     ensures answered { (output : OutputState) × AnswersPieces (H.law (H.heard handler.new))
-        (at_start (H.state handler.old) (H.failures handler.old) (Some []))
+        (snapshot_at_start (H.state handler.old) (H.failures handler.old) (Some []))
         (map (λ piece. piece.now) pieces.now)
         (record {
           state = H.state handler.new;

@@ -1,14 +1,14 @@
 //! A server that serves what the grammar drops of a line: the type of TYPE, EPSV ALL, and the facts
 //! of OPTS MLST. Its data connections are left out: only EPSV is not implemented.
 ghost use Rattle.std.specs.Prelude.{◌≡◌, ◌↔◌, false, true, IfErr, IfOk, IsTrue, OnErr};
-ghost use Rattle.unftp_control.specs.Decoder.{HasNoLine};
+ghost use Rattle.unftp_control.specs.Decoder.{FindsNoLine};
 ghost use Rattle.unftp_control.specs.ErrorMeaning.{fault_of};
 ghost use Rattle.unftp_control.specs.EventMeaning.{event_meant};
 ghost use Rattle.unftp_control.specs.Events.{out_of_memory};
 ghost use Rattle.unftp_control.specs.FtpReply.{CodeAndMsg};
 ghost use Rattle.unftp_control.specs.ReplyMeaning.{number_of};
 ghost use Rattle.example_callers.specs.EventLoop.{LeavesUnanswered};
-ghost use Rattle.example_callers.specs.WholeLine.{AnswersLine, AsksFor, SaysOneOf, modes_after, reply_to};
+ghost use Rattle.example_callers.specs.WholeLine.{AnswersLine, AsksFor, SaysOneOf, modes_after, line_reply};
 
 use crate::event_loop::reply;
 use crate::fact_list::{Facts, facts_asked, facts_text};
@@ -71,7 +71,7 @@ fn asked_by(text: &[u8]) -> Asked
 /// The reply to an event whose line asks this; the modes change as it says.
 fn agree(modes: &mut Modes, event: &Event, asked: Asked) -> (ReplyCode, &'static str)
     ensures reply { CodeAndMsg (number_of result.0) result.1.now
-        ≡ reply_to modes.old.epsv_only (event_meant event.now) asked }
+        ≡ line_reply modes.old.epsv_only (event_meant event.now) asked }
     ensures modes { modes.new ≡ modes_after modes.old (event_meant event.now) asked }
 {
     match (event, asked) {
@@ -113,7 +113,7 @@ pub fn answer_line(
     modes: &mut Modes,
     out: &mut Vec<u8>,
 ) -> Result<bool, ControlChanError>
-    ensures none { IfOk result (λ more. more ≡ false → HasNoLine decoder.old decoder.new
+    ensures none { IfOk result (λ more. more ≡ false → FindsNoLine decoder.old decoder.new
         × (modes.new ≡ modes.old) × (out.new.items ≡ out.old.items)) }
     ensures line { IfOk result (λ more. (more ≡ true) → AnswersLine
         decoder.old modes.old out.old.items decoder.new modes.new out.new.items) }

@@ -11,7 +11,7 @@ use Rattle.unftp_control_defs.specs.Events.{FtpEvent, event_for, events}
 use Rattle.unftp_control_defs.specs.FtpReply.{FtpReply, IsReadable, encoded, reply_as_read}
 use Rattle.unftp_control_defs.specs.Lines.{IsLine, incomplete_line}
 use Rattle.unftp_control_defs.specs.ReplyReader.{HasFront}
-use Rattle.unftp_control_defs.specs.Run.{SessionLaw, replies, run_for, run_of, turn, replies_by_event, all_said, replies_to}
+use Rattle.unftp_control_defs.specs.Run.{SessionLaw, replies, run_for, run_of, turn, replies_by_event, all_replies, replies_to}
 use Rattle.unftp_control_defs.specs.TakingSteps.{AreTakingSteps, TakesReply, all_taken}
 use Rattle.unftp_control_defs.proofs.LineLemmas.{events-append}
 use Rattle.unftp_control_defs.proofs.RunLemmas.{at_each-append, run_of-append, run_of-first}
@@ -19,7 +19,7 @@ use Rattle.unftp_control_defs.proofs.ExchangeLemmas.{length-replies_by_event, re
 use Rattle.unftp_control_serve.specs.Writing.{Begins}
 use Rattle.unftp_control_defs.specs.Turns.{IsExchange, cut_reads, is_preliminary_read}
 use Rattle.unftp_control_client.specs.Exchange.{new_client}
-use Rattle.unftp_control_client.specs.Steps.{AreDialogueSteps, AreExchanges, AreSteps, ClientStep, ReplyTo, Received, Sent, Took, after_to, decoder_steps, is_final, is_something, lines_sent, replies_taken, sent_by, taken_by, was_owed}
+use Rattle.unftp_control_client.specs.Steps.{AreDialogueSteps, AreExchanges, AreClientSteps, ClientStep, ReplyTo, Received, SentLine, Took, after_to, decoder_steps, is_final, is_something, lines_sent, replies_taken, sent_line, taken_by, was_owed}
 use Rattle.unftp_control_client.specs.declared.Client.{Client}
 use Rattle.unftp_control_client.specs.declared.dialogue.To.{To}
 use Rattle.unftp_control_client.specs.declared.dialogue.To.TheVariants.{Greeting, Command, Nothing}
@@ -55,7 +55,7 @@ turns_to_first server input more =
 
 -- what is written is what is said
 pub written-said : {S : Type 0} (server : Server S) (input : Bytes)
-    → written_by server input ≡ flat_map encoded (all_said (turns_to server input))
+    → written_by server input ≡ flat_map encoded (all_replies (turns_to server input))
 written-said server input = refl
 
 pub all_of_first : {X : Type 0} (P : X → Type 0) (xs ys : List X) → AllByRecursion P (xs ++ ys)
@@ -67,7 +67,7 @@ all_of_first P (x ∷ xs) ys each = (each.0, all_of_first P xs ys each.1)
 pub IsUnderstood-first : (turns more : List (List FtpReply)) → IsUnderstood (turns ++ more)
     → IsUnderstood turns
 IsUnderstood-first turns more all = record {
-  readable = all_of_first IsReadable (all_said turns) (all_said more)
+  readable = all_of_first IsReadable (all_replies turns) (all_replies more)
       (subst (AllByRecursion IsReadable) (flat_map-append (λ turn. turn) turns more) all.readable);
   exchanges = all_of_first IsExchange turns more all.exchanges;
 }
@@ -98,7 +98,7 @@ shown_first taken later more reply replies show = ap (λ shown. get_or shown 0 N
 -- the replies of a turn, and of those after it
 numbered : (taken : List ReplyTo) (more : List (ℕ × List Bytes)) (to : To) (turn : List FtpReply)
     (turns : List (List FtpReply)) → IsExchange turn → AllByRecursion IsExchange turns
-    → AreExchanges to taken → Show (map (λ t. t.reply) taken ++ more) (turn ++ all_said turns)
+    → AreExchanges to taken → Show (map (λ t. t.reply) taken ++ more) (turn ++ all_replies turns)
     → AreNumbered taken more (exchanges to (turn ∷ turns))
 numbered taken more to [] turns is each are show = absurd is
 numbered [] [] to (reply ∷ turn) turns is each are show = absurd (cc)
@@ -110,13 +110,13 @@ numbered (taken ∷ []) [] to (reply ∷ []) [] is each are show =
 numbered (taken ∷ []) (other ∷ more) to (reply ∷ []) [] is each are show = absurd (cc)
 numbered (taken ∷ (next ∷ later)) more to (reply ∷ []) [] is each are show = absurd (cc)
 numbered (taken ∷ later) more to (reply ∷ []) (turn ∷ turns) is each are show =
-    let read = shown_first taken later more reply (turn ++ all_said turns) show in
+    let read = shown_first taken later more reply (turn ++ all_replies turns) show in
     let final = read-alike reply taken.reply read ∙ is in
     numbered-first taken later more to reply (exchanges (after_to to) (turn ∷ turns)) read are.0
     (numbered later more (after_to to) turn turns each.0 each.1
     (rw final at are.1) (ap (drop 1) show))
 numbered (taken ∷ later) more to (reply ∷ (second ∷ turn)) turns is each are show =
-    let read = shown_first taken later more reply ((second ∷ turn) ++ all_said turns) show in
+    let read = shown_first taken later more reply ((second ∷ turn) ++ all_replies turns) show in
     let preliminary = read-alike reply taken.reply read ∙ is.0 in
     numbered-first taken later more to reply (exchanges to ((second ∷ turn) ∷ turns)) read are.0
     (numbered later more to (second ∷ turn) turns is.1 each
@@ -148,7 +148,7 @@ final_before (t ∷ taken) next = grind (
 taken_of : (steps : List ClientStep)
     → all_taken (decoder_steps steps) ≡ map (λ t. t.reply) (replies_taken steps)
 taken_of [] = refl
-taken_of (Sent line ∷ steps) = taken_of steps
+taken_of (SentLine line ∷ steps) = taken_of steps
 taken_of (Received piece ∷ steps) = taken_of steps
 taken_of (Took taken ∷ steps) = ap (λ more. taken.reply ∷ more) (taken_of steps)
 
@@ -159,14 +159,14 @@ module _ {S : Type 0} (server : Server S) (limit : Option ℕ) (acts : List Act)
     (clear : IsUnderstood (turns_to server (sent_by_client acts))) where
   -- at some time of it
   module _ (before later : List Act) (split : acts ≡ before ++ later) (middle : Client)
-      (are : AreSteps (new_client limit) (client_steps before) middle) where
+      (are : AreClientSteps (new_client limit) (client_steps before) middle) where
     abbrev here : List (List FtpReply)
     here = turns_to server (came_to_server before)
 
     lines_so : lines_of_client acts ≡ lines_of_client before ++ lines_of_client later
     lines_so = ap lines_of_client split
         ∙ ap lines_sent (filter_map-append at_client before later)
-        ∙ filter_map-append sent_by (client_steps before) (client_steps later)
+        ∙ filter_map-append sent_line (client_steps before) (client_steps later)
 
     came_first : Begins (sent_by_client acts) (came_to_server before)
     came_first = let sent = (talk.in_order before later split).to_server in (
@@ -188,9 +188,9 @@ module _ {S : Type 0} (server : Server S) (limit : Option ℕ) (acts : List Act)
     decoded = steps-taken (client_steps before) (new_client limit) middle are
 
     shown : (more : List (ℕ × List Bytes))
-        × Show (all_taken (decoder_steps (client_steps before)) ++ more) (all_said here)
+        × Show (all_taken (decoder_steps (client_steps before)) ++ more) (all_replies here)
     shown = let came = (talk.in_order before later split).to_client in
-        read_so_far (all_said here) here_clear.readable (decoder_steps (client_steps before))
+        read_so_far (all_replies here) here_clear.readable (decoder_steps (client_steps before))
         middle.replies.bytes decoded came.0
         (sym came.1 ∙ written-said server (came_to_server before))
 
@@ -230,17 +230,18 @@ module _ {S : Type 0} (server : Server S) (limit : Option ℕ) (acts : List Act)
 
   -- one more step of the client
   later_steps : (before : List Act) (middle next : Client) (step : ClientStep)
-      → AreSteps start (client_steps before) middle → AreSteps middle (step ∷ []) next
-      → AreSteps start (client_steps (before ++ AtClient step ∷ [])) next
+      → AreClientSteps start (client_steps before) middle → AreClientSteps middle (step ∷ []) next
+      → AreClientSteps start (client_steps (before ++ AtClient step ∷ [])) next
   later_steps before middle next step are is =
-      subst (λ steps. AreSteps start steps next)
+      subst (λ steps. AreClientSteps start steps next)
       (sym (filter_map-append at_client before (AtClient step ∷ [])))
       (steps-append (client_steps before) (step ∷ []) start middle next are is)
 
   -- a reply to nothing would be one more than there are
   not_nothing : (before later : List Act) (taken : ReplyTo) (middle next : Client)
       → acts ≡ (before ++ AtClient (Took taken) ∷ []) ++ later
-      → AreSteps start (client_steps before) middle → AreSteps middle (Took taken ∷ []) next
+      → AreClientSteps start (client_steps before) middle → AreClientSteps middle
+      (Took taken ∷ []) next
       → (to : To) → taken.to ≡ to → is_something to ≡ true
   not_nothing before later taken middle next split are is Greeting e = refl
   not_nothing before later taken middle next split are is (Command place) e = refl
@@ -264,24 +265,25 @@ module _ {S : Type 0} (server : Server S) (limit : Option ℕ) (acts : List Act)
             both,
         ap (λ taken. length (cut_reads (map (λ (t : ReplyTo). t.reply) taken)))
             (filter_map-append taken_by (client_steps before) (Took taken ∷ [])),
-        ap length (filter_map-append sent_by (client_steps before) (Took taken ∷ [])),
+        ap length (filter_map-append sent_line (client_steps before) (Took taken ∷ [])),
         length-append (lines_of_client before) [],
       ))
 
   all_owed : (later before : List Act) → acts ≡ before ++ later → (middle : Client)
-      → AreSteps start (client_steps before) middle → AreSteps middle (client_steps later) client
+      → AreClientSteps start (client_steps before) middle → AreClientSteps middle
+      (client_steps later) client
       → AllByRecursion (λ t. was_owed t ≡ true) (taken_by_client later)
   all_owed [] before split middle are rest = tt
   all_owed (AtServer piece ∷ later) before split middle are rest =
       all_owed later (before ++ AtServer piece ∷ [])
       (split ∙ sym (append_assoc before (AtServer piece ∷ []) later)) middle
-      (subst (λ steps. AreSteps start steps middle)
+      (subst (λ steps. AreClientSteps start steps middle)
       (sym (filter_map-append at_client before (AtServer piece ∷ [])
       ∙ append-nil (client_steps before))) are) rest
-  all_owed (AtClient (Sent line) ∷ later) before split middle are (next, is, rest) =
-      all_owed later (before ++ AtClient (Sent line) ∷ [])
-      (split ∙ sym (append_assoc before (AtClient (Sent line) ∷ []) later)) next
-      (later_steps before middle next (Sent line) are (next, is, (refl, refl))) rest
+  all_owed (AtClient (SentLine line) ∷ later) before split middle are (next, is, rest) =
+      all_owed later (before ++ AtClient (SentLine line) ∷ [])
+      (split ∙ sym (append_assoc before (AtClient (SentLine line) ∷ []) later)) next
+      (later_steps before middle next (SentLine line) are (next, is, (refl, refl))) rest
   all_owed (AtClient (Received piece) ∷ later) before split middle are (next, is, rest) =
       all_owed later (before ++ AtClient (Received piece) ∷ [])
       (split ∙ sym (append_assoc before (AtClient (Received piece) ∷ []) later)) next
@@ -309,28 +311,28 @@ module _ {S : Type 0} (server : Server S) (limit : Option ℕ) (acts : List Act)
 
   -- each reply of what was read has its number
   all_numbered : (more : List (ℕ × List Bytes))
-      → Show (all_taken (decoder_steps (client_steps acts)) ++ more) (all_said turns)
+      → Show (all_taken (decoder_steps (client_steps acts)) ++ more) (all_replies turns)
       → AreNumbered (taken_by_client acts) more (exchanges Greeting turns)
   all_numbered more show = numbered (taken_by_client acts) more Greeting (server.greeting ∷ [])
       (replies_by_event server.law server.state
       (run_for server.limit server.law server.state (sent_by_client acts)))
       clear.exchanges.0 clear.exchanges.1 are_exchanges
-      (subst (λ all. Show (all ++ more) (all_said turns)) (taken_of (client_steps acts)) show)
+      (subst (λ all. Show (all ++ more) (all_replies turns)) (taken_of (client_steps acts)) show)
 
   pub taken_so_far : AreFirst (taken_by_client acts) (exchanges Greeting turns)
   taken_so_far =
       let came = (talk.in_order acts [] whole_acts).to_client in
       let first = here_first acts [] whole_acts client talk.steps in
       let now = turns_to server (came_to_server acts) in
-      let whole = ap (flat_map encoded) (ap all_said first.1
+      let whole = ap (flat_map encoded) (ap all_replies first.1
       ∙ flat_map-append (λ turn. turn) now first.0)
-      ∙ flat_map-append encoded (all_said now) (all_said first.0)
-      ∙ ap (λ bytes. bytes ++ flat_map encoded (all_said first.0))
+      ∙ flat_map-append encoded (all_replies now) (all_replies first.0)
+      ∙ ap (λ bytes. bytes ++ flat_map encoded (all_replies first.0))
       (sym (written-said server (came_to_server acts)) ∙ came.1)
-      ∙ append_assoc (came_to_client acts) came.0 (flat_map encoded (all_said first.0)) in
-      let read = read_so_far (all_said turns) clear.readable (decoder_steps (client_steps acts))
+      ∙ append_assoc (came_to_client acts) came.0 (flat_map encoded (all_replies first.0)) in
+      let read = read_so_far (all_replies turns) clear.readable (decoder_steps (client_steps acts))
       client.replies.bytes (decoded acts [] whole_acts client talk.steps)
-      (came.0 ++ flat_map encoded (all_said first.0)) (sym whole) in
+      (came.0 ++ flat_map encoded (all_replies first.0)) (sym whole) in
       let rest = all_numbered read.0 read.1 in
       (rest.0, rest.1)
 
@@ -339,11 +341,11 @@ module _ {S : Type 0} (server : Server S) (limit : Option ℕ) (acts : List Act)
       → (map Some (taken_by_client acts) ≡ exchanges Greeting turns)
       × (client.replies.bytes ≡ [])
   taken_all came none =
-      let read = read_all (all_said turns) clear.readable (decoder_steps (client_steps acts))
+      let read = read_all (all_replies turns) clear.readable (decoder_steps (client_steps acts))
       client.replies.bytes (decoded acts [] whole_acts client talk.steps)
       (came ∙ written-said server (sent_by_client acts)) none in
       let rest = all_numbered []
-      (subst (λ all. Show all (all_said turns))
+      (subst (λ all. Show all (all_replies turns))
       (sym (append-nil (all_taken (decoder_steps (client_steps acts))))) read.0) in (
         sym (rest.1 ∙ ap (λ more. map Some (taken_by_client acts) ++ more) (rest.2 refl)
             ∙ append-nil (map Some (taken_by_client acts))),

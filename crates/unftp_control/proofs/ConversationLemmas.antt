@@ -7,7 +7,7 @@ use Rattle.unftp_control_defs.specs.Bytes.{Bytes}
 use Rattle.unftp_control_defs.specs.Canonical.{canonical_line}
 use Rattle.unftp_control_defs.specs.Events.{Command, event_for, event_of, events}
 use Rattle.unftp_control_defs.specs.Forwarded.{forwarded_line}
-use Rattle.unftp_control_defs.specs.FtpCommand.{Answer, FtpCommand}
+use Rattle.unftp_control_defs.specs.FtpCommand.{Outcome, FtpCommand}
 use Rattle.unftp_control_defs.specs.FtpReply.{FtpReply, IsReadable, encoded, reply_as_read}
 use Rattle.unftp_control_defs.specs.Lines.{IsLine, lines_of, incomplete_line}
 use Rattle.unftp_control_defs.specs.Outcome.{outcome}
@@ -23,7 +23,7 @@ use Rattle.unftp_control_defs.proofs.ForwardedLineLemmas.{IsLine-forwarded_line,
 use Rattle.unftp_control_defs.proofs.LineEventLemmas.{events-canonical_line}
 use Rattle.unftp_control_defs.proofs.LineLemmas.{Lines-lines_of, events-within, lines_of-concat}
 use Rattle.unftp_control_defs.proofs.ReplyLemmas.{TakesReply-append, none_of_nothing}
-use Rattle.unftp_control_defs.specs.Run.{all_said}
+use Rattle.unftp_control_defs.specs.Run.{all_replies}
 use Rattle.unftp_control.specs.Conversation.{CanBeSent, KeepsMeaning, Show, ShowTurns, canonical_of, forwarded_of, rewritten, sent, written_if_read}
 use Rattle.unftp_control.proofs.ReplyStepLemmas.{AreReplies-all, AreReplies-rest, AreReplies-unique, steps-replies}
 
@@ -107,20 +107,20 @@ length-cut_by preliminary (x ∷ read) more = grind (
 )
 
 cut_turns : (turns : List (List FtpReply)) → AllByRecursion IsExchange turns
-    → cut_after_final (all_said turns) ≡ turns
+    → cut_after_final (all_replies turns) ≡ turns
 cut_turns [] each = refl
 cut_turns (turn ∷ turns) each =
-    cut-exchange is_preliminary_reply turn (all_said turns) each.0
+    cut-exchange is_preliminary_reply turn (all_replies turns) each.0
     ∙ ap (λ later. turn ∷ later) (cut_turns turns each.1)
 
 -- those to each event are a part
 pub shows_turns : (read : List (ℕ × List Bytes)) (turns : List (List FtpReply))
-    → AllByRecursion IsExchange turns → Show read (all_said turns) → ShowTurns read turns
-shows_turns read turns each show = cut-read (all_said turns) read show
+    → AllByRecursion IsExchange turns → Show read (all_replies turns) → ShowTurns read turns
+shows_turns read turns each show = cut-read (all_replies turns) read show
     ∙ ap (map (map reply_as_read)) (cut_turns turns each)
 
 pub shown_turns : (read : List (ℕ × List Bytes)) (turns : List (List FtpReply))
-    → AllByRecursion IsExchange turns → Show read (all_said turns)
+    → AllByRecursion IsExchange turns → Show read (all_replies turns)
     → length (cut_reads read) ≡ length turns
 shown_turns read turns each show =
     sym (length-map (cut_reads read) (map Some)) ∙ ap length (shows_turns read turns each show)
@@ -130,7 +130,7 @@ shown_turns read turns each show =
 module _ (write : Bytes → FtpCommand → Bytes)
     (keeps : (line : Bytes) (command : FtpCommand) → IsLine line → outcome line ≡ Ok command
     → IsLine (write line command) × (outcome (write line command) ≡ Ok command)) where
-  written-keeps : (line : Bytes) → IsLine line → (answer : Answer) → outcome line ≡ answer
+  written-keeps : (line : Bytes) → IsLine line → (answer : Outcome) → outcome line ≡ answer
       → IsLine (written_if_read write line answer)
       × (outcome (written_if_read write line answer) ≡ outcome line)
   written-keeps line is_line (Ok command) means =

@@ -4,18 +4,18 @@ use Rattle.std.specs.Str.{is_utf8, chars}
 use Rattle.unftp_control_defs.specs.Bytes.{Bytes}
 use Rattle.unftp_control_defs.specs.Verbs.{Cut, upper}
 use Rattle.unftp_control_defs.specs.ComputedValue.{value_of}
-use Rattle.unftp_control_defs.specs.FtpCommand.{Answer, InvalidUtf8, verbs}
+use Rattle.unftp_control_defs.specs.FtpCommand.{Outcome, InvalidUtf8, verbs}
 use Rattle.unftp_control_defs.specs.Rules.{row_of, subcommand_answer}
 use Rattle.unftp_control_defs.specs.Outcome.{outcome, site_answer, value_answer, word_answer}
 use Rattle.unftp_control_defs.proofs.CaseLemmas.{is_utf8-upper}
 use Rattle.unftp_control_defs.proofs.VerbLemmas.{Cut-unique}
 
 -- what the line means, from its parts
-abbrev meaning : Bytes → Bytes → Answer
+abbrev meaning : Bytes → Bytes → Outcome
 meaning verb parameter = cond (is_utf8 verb) (word_answer (upper verb) (row_of (upper verb) verbs) parameter)
     (Err InvalidUtf8)
 
-abbrev site_meaning : Bytes → Bytes → Answer
+abbrev site_meaning : Bytes → Bytes → Outcome
 site_meaning name arguments =
     cond (is_utf8 name) (value_answer (subcommand_answer (upper name)) (value_of arguments))
     (Err InvalidUtf8)

@@ -4,7 +4,7 @@ use Rattle.std.specs.List.{concat, flat_map}
 use Rattle.unftp_control_defs.specs.Bytes.{Bytes}
 use Rattle.unftp_control_defs.specs.FtpReply.{FtpReply, encoded}
 use Rattle.unftp_control_defs.specs.ReplyReader.{HasFront}
-use Rattle.unftp_control_defs.specs.Run.{SessionLaw, all_said, run_of, text_of}
+use Rattle.unftp_control_defs.specs.Run.{SessionLaw, all_replies, run_of, text_of}
 use Rattle.unftp_control_defs.specs.TakingSteps.{AreTakingSteps, TakesReply, TakingStep, all_pushed, all_taken}
 use Rattle.unftp_control_proxy.specs.ProxyCalls.{ProxyState, new_proxy}
 use Rattle.unftp_control_proxy.specs.Traffic.{ChangesNothing, IsTraffic, Traffic, client_lines}
@@ -41,9 +41,9 @@ module _ {S : Type 0} (law : SessionLaw S) (state : S) (greeting : FtpReply) {li
   pub so_far : (more : Bytes) → Begins (written_by server traffic.to_server) traffic.from_server
       → all_pushed steps ++ more ≡ traffic.to_client
       → (unread : List (ℕ × List Bytes)) × Show (all_taken steps ++ unread)
-      (all_said (turns_to server lines))
+      (all_replies (turns_to server lines))
   so_far more begins came =
-      read_so_far (all_said (turns_to server lines)) clear.readable steps pending are
+      read_so_far (all_replies (turns_to server lines)) clear.readable steps pending are
       (more ++ (later.server.bytes ++ begins.0))
       (sym (append_assoc (all_pushed steps) more (later.server.bytes ++ begins.0))
       ∙ ap (λ bytes. bytes ++ (later.server.bytes ++ begins.0)) came
@@ -55,7 +55,7 @@ module _ {S : Type 0} (law : SessionLaw S) (state : S) (greeting : FtpReply) {li
       → later.server.bytes ≡ [] → all_pushed steps ≡ traffic.to_client → ¬ HasFront pending
       → ShowTurns (all_taken steps) (turns_to server lines) × (pending ≡ [])
   all came none_left pushed none =
-      let read = read_all (all_said (turns_to server lines)) clear.readable steps pending are
+      let read = read_all (all_replies (turns_to server lines)) clear.readable steps pending are
       (pushed ∙ sym (append-nil traffic.to_client)
       ∙ ap (λ bytes. traffic.to_client ++ bytes) (sym none_left)
       ∙ same_bytes is same ∙ came ∙ written_same ∙ written-said server lines) none in

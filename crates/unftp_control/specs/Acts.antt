@@ -5,12 +5,12 @@ use Rattle.std.specs.List.{AllByRecursion, concat, filter_map}
 use Rattle.unftp_control_defs.specs.Bytes.{Bytes}
 use Rattle.unftp_control_defs.specs.FtpReply.{FtpReply, IsReadable, encoded, reply_as_read}
 use Rattle.unftp_control_defs.specs.Lines.{IsLine}
-use Rattle.unftp_control_defs.specs.Run.{SessionLaw, all_said, replies_by_event, run_for, text_for}
+use Rattle.unftp_control_defs.specs.Run.{SessionLaw, all_replies, replies_by_event, run_for, text_for}
 use Rattle.unftp_control_defs.specs.Turns.{IsExchange}
 use Rattle.unftp_control_defs.specs.TakingSteps.{all_pushed}
 use Rattle.unftp_control_serve.specs.Writing.{Begins}
 use Rattle.unftp_control_client.specs.Exchange.{new_client}
-use Rattle.unftp_control_client.specs.Steps.{AreSteps, ClientStep, ReplyTo, after_to, decoder_steps, lines_sent, replies_taken}
+use Rattle.unftp_control_client.specs.Steps.{AreClientSteps, ClientStep, ReplyTo, after_to, decoder_steps, lines_sent, replies_taken}
 use Rattle.unftp_control_client.specs.declared.Client.{Client}
 use Rattle.unftp_control_client.specs.declared.dialogue.To.{To}
 
@@ -74,14 +74,14 @@ pub record InOrder {S : Type 0} (server : Server S) (acts : List Act) : Type 0 w
 -- A new client and a server have done this, and the client sent lines: so it is at each time.
 pub record IsConversation {S : Type 0} (server : Server S) (limit : Option ℕ) (acts : List Act)
     (client : Client) : Type 0 where
-  pub steps : AreSteps (new_client limit) (client_steps acts) client
+  pub steps : AreClientSteps (new_client limit) (client_steps acts) client
   pub lines : AllByRecursion IsLine (lines_of_client acts)
   pub in_order : (before later : List Act) → acts ≡ before ++ later → InOrder server before
 
 -- The client can read back each of the replies, and knows which are to which line: those to each
 -- are some preliminary ones and then a final one.
 pub record IsUnderstood (turns : List (List FtpReply)) : Type 0 where
-  pub readable : AllByRecursion IsReadable (all_said turns)
+  pub readable : AllByRecursion IsReadable (all_replies turns)
   pub exchanges : AllByRecursion IsExchange turns
 
 -- What is read of these replies: the first ones are to this, and those of each later list to what

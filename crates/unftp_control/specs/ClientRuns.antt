@@ -3,7 +3,7 @@ use Rattle.std.specs.Prelude.{ℕ, Bool, false, List, [], ◌∷◌, Option, Som
 use Rattle.unftp_control_defs.specs.Bytes.{Bytes}
 use Rattle.unftp_control_read.specs.ReplyDecoding.{appended, no_bytes}
 use Rattle.unftp_control_defs.specs.FtpReply.{CodeAndMsg}
-use Rattle.unftp_control_client.specs.Steps.{Received, ReplyTo, Sent, Took}
+use Rattle.unftp_control_client.specs.Steps.{Received, ReplyTo, SentLine, Took}
 use Rattle.unftp_control_client.specs.declared.Client.{Client}
 use Rattle.unftp_control_client.specs.declared.dialogue.Dialogue.{Dialogue}
 use Rattle.unftp_control_client.specs.declared.dialogue.To.{To}
@@ -32,7 +32,7 @@ farewell_server =
     record { law = farewell; state = false; limit = None; greeting = CodeAndMsg 220 [] }
 
 abbrev pub talk : List Act
-talk = AtClient (Sent noop) ∷ AtServer noop ∷ AtClient (Received (codes "220\r\n2"))
+talk = AtClient (SentLine noop) ∷ AtServer noop ∷ AtClient (Received (codes "220\r\n2"))
     ∷ AtClient (Took (reply_with 220 Greeting)) ∷ AtClient (Received (codes "00\r\n"))
     ∷ AtClient (Took (reply_with 200 (Command 0))) ∷ []
 

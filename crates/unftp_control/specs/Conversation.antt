@@ -6,7 +6,7 @@ use Rattle.unftp_control_defs.specs.Bytes.{Bytes}
 use Rattle.unftp_control_defs.specs.Canonical.{canonical_line, HasLine}
 use Rattle.unftp_control_defs.specs.Events.{exceeds}
 use Rattle.unftp_control_defs.specs.Forwarded.{forwarded_line}
-use Rattle.unftp_control_defs.specs.FtpCommand.{Answer, FtpCommand}
+use Rattle.unftp_control_defs.specs.FtpCommand.{Outcome, FtpCommand}
 use Rattle.unftp_control_defs.specs.Said.{HasTypedFields}
 use Rattle.unftp_control_defs.specs.FtpReply.{FtpReply, reply_as_read}
 use Rattle.unftp_control_defs.specs.Lines.{IsLine, lines_of, incomplete_line}
@@ -42,7 +42,7 @@ KeepsMeaning rewrite = (line : Bytes) → IsLine line
 
 -- The line of a command is replaced by the one that `write` makes of it, its canonical line or the
 -- line that a proxy forwards. A refused line stays as it is.
-abbrev pub written_if_read : (Bytes → FtpCommand → Bytes) → Bytes → Answer → Bytes
+abbrev pub written_if_read : (Bytes → FtpCommand → Bytes) → Bytes → Outcome → Bytes
 written_if_read write line (Ok command) = write line command
 written_if_read write line (Err refusal) = line
 

@@ -9,7 +9,7 @@ use Rattle.std.proofs.lemmas.List.Elements.{All-append, All-cons, All-from_get_o
 use Rattle.std.proofs.lemmas.Fmt.{decimal_nonempty, digits_decimal, digits_value-decimal, length-decimal-le}
 use Rattle.std.proofs.lemmas.List.Splits.{slice_split_at}
 use Rattle.unftp_control_address.specs.Numbers.{number_below, octet, octets, octets_between, onto}
-use Rattle.unftp_control_address.specs.HostPorts.{COMMA, host_port, host_port_text, joined}
+use Rattle.unftp_control_address.specs.HostPorts.{COMMA, host_port, host_port_text, joined_numbers}
 use Rattle.unftp_control_address.proofs.NumberLemmas.{AreDigits, own, is_number_of}
 use Rattle.unftp_control_address.proofs.OctetLemmas.{digits_unsplit, one}
 
@@ -36,23 +36,25 @@ each_digit P h n small = All-from_get_or P (decimal n) 0
 
 pub each_joined : (P : ℕ → Type 0) → ((b : ℕ) → IsInRange 48 57 b → P b) → (separator : ℕ) → P separator
     → (n : ℕ) (ns : List ℕ) → n < 256 → AllByRecursion (λ m. m < 256) ns
-    → All P (joined separator (n ∷ ns))
+    → All P (joined_numbers separator (n ∷ ns))
 each_joined P h separator here n [] small all = each_digit P h n (omega (arith, small))
 each_joined P h separator here n (m ∷ ns) small all =
-    All-append P (decimal n) (separator ∷ joined separator (m ∷ ns))
+    All-append P (decimal n) (separator ∷ joined_numbers separator (m ∷ ns))
     (each_digit P h n (omega (arith, small)))
-    (All-cons P separator (joined separator (m ∷ ns)) here
+    (All-cons P separator (joined_numbers separator (m ∷ ns)) here
     (each_joined P h separator here m ns all.0 all.1))
 
 pub joined_octets : (separator : ℕ) → is_ascii_digit separator ≡ false → (n : ℕ) (ns : List ℕ)
     → n < 256 → AllByRecursion (λ m. m < 256) ns
-    → octets_between separator (joined separator (n ∷ ns)) ≡ Some (n ∷ ns)
+    → octets_between separator (joined_numbers separator (n ∷ ns)) ≡ Some (n ∷ ns)
 joined_octets separator h n [] small all = one separator (decimal n) n h (octet_decimal n small)
 joined_octets separator h n (m ∷ ns) small all =
-    ap octets (slice_split_at (λ b. b == separator) (decimal n) separator (joined separator (m ∷ ns))
+    ap octets (slice_split_at (λ b. b == separator) (decimal n) separator
+        (joined_numbers separator (m ∷ ns))
     (digits_unsplit separator (decimal n) h (decimal_digits n (omega (arith, small))))
     (eq-eqb separator separator refl))
-    ∙ ap (λ first. onto first (octets_between separator (joined separator (m ∷ ns)))) (octet_decimal n small)
+    ∙ ap (λ first. onto first (octets_between separator (joined_numbers separator (m ∷ ns))))
+    (octet_decimal n small)
     ∙ ap (onto (Some n)) (joined_octets separator h m ns all.0 all.1)
 
 pub read_back : (a b c d port : ℕ) → a < 256 → b < 256 → c < 256 → d < 256 → port < 65536

@@ -37,15 +37,15 @@ abbrev pub first_host_port : Bytes → Option HostPort
 first_host_port text = slice_get (filter_map host_port (slice_split is_outside text)) 0
 
 -- numbers in decimal with separators between them
-abbrev pub joined : ℕ → List ℕ → Bytes
-joined separator [] = []
-joined separator (n ∷ []) = decimal n
-joined separator (n ∷ m ∷ ns) = decimal n ++ separator ∷ joined separator (m ∷ ns)
+abbrev pub joined_numbers : ℕ → List ℕ → Bytes
+joined_numbers separator [] = []
+joined_numbers separator (n ∷ []) = decimal n
+joined_numbers separator (n ∷ m ∷ ns) = decimal n ++ separator ∷ joined_numbers separator (m ∷ ns)
 
 -- the text of an address
 abbrev pub host_port_text : HostPort → Bytes
 host_port_text address =
-    joined COMMA (address.0 ++ (address.1 / 256) ∷ (address.1 % 256) ∷ [])
+    joined_numbers COMMA (address.0 ++ (address.1 / 256) ∷ (address.1 % 256) ∷ [])
 
 -- it begins with a byte that is in no address, or is empty
 abbrev pub begins_outside : Bytes → Bool

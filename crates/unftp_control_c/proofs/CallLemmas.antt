@@ -6,7 +6,7 @@ use Rattle.std.proofs.lemmas.Bool.Decides.{nat_tests}
 use Rattle.std.proofs.lemmas.List.{length-take}
 use Rattle.unftp_control_defs.specs.Bytes.{Bytes}
 use Rattle.unftp_control_defs.specs.Events.{FtpEvent, Refused, event_of, line_too_long}
-use Rattle.unftp_control_defs.specs.FtpCommand.{Answer, FtpCommand, User, InvalidCommand, InvalidUtf8, InvalidEol}
+use Rattle.unftp_control_defs.specs.FtpCommand.{Outcome, FtpCommand, User, InvalidCommand, InvalidUtf8, InvalidEol}
 use Rattle.unftp_control_defs.specs.Said.{command_number}
 use Rattle.unftp_control_defs.specs.Outcome.{outcome}
 use Rattle.unftp_control_defs.specs.TakingSteps.{TakesEvent}
@@ -66,7 +66,7 @@ command_gives : (command : FtpCommand) → gives_none (command_number command) �
 command_gives (User name) = refl
 command_gives _ = refl
 
-answer_gives : (answer : Answer) → gives_none (given_for (event_of answer)).number ≡ false
+answer_gives : (answer : Outcome) → gives_none (given_for (event_of answer)).number ≡ false
 answer_gives (Ok command) = command_gives command
 answer_gives (Err InvalidCommand) = refl
 answer_gives (Err InvalidUtf8) = refl

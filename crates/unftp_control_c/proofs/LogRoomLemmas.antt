@@ -4,7 +4,7 @@ use Rattle.std.specs.Char.Escape.{escape_ascii, short_escape}
 use Rattle.std.proofs.lemmas.Bool.{cond_both}
 use Rattle.unftp_control_defs.specs.Bytes.{Bytes}
 use Rattle.unftp_control_defs.specs.Events.{Command, Refused, event_of, line_too_long}
-use Rattle.unftp_control_defs.specs.FtpCommand.{Answer, FtpCommand, InvalidCommand, InvalidEol, InvalidUtf8, Md5, Other, Pass, Acct, Site, unless_empty}
+use Rattle.unftp_control_defs.specs.FtpCommand.{Outcome, FtpCommand, InvalidCommand, InvalidEol, InvalidUtf8, Md5, Other, Pass, Acct, Site, unless_empty}
 use Rattle.unftp_control_defs.specs.Outcome.{outcome}
 use Rattle.unftp_control_defs.specs.Rules.{row_of}
 use Rattle.unftp_control_defs.specs.Said.{name_and_value}
@@ -108,7 +108,7 @@ refused_room line true reason short = omega (
 )
 refused_room line false reason short = omega (arith, short)
 
-answer_room : (line : Bytes) (answer : Answer)
+answer_room : (line : Bytes) (answer : Outcome)
     → lengths (event_of answer) ≤ 3 * length line
     → length (log_line (event_of answer) line) ≤ 12 * length line + 42
 answer_room line (Ok command) room = omega (arith, command_room command, room)

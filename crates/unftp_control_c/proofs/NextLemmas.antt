@@ -5,7 +5,7 @@ use Rattle.std.proofs.lemmas.Bool.Decides.{nat_tests}
 use Rattle.std.proofs.lemmas.List.{length-take-le}
 use Rattle.unftp_control_defs.specs.Bytes.{Bytes}
 use Rattle.unftp_control_defs.specs.Events.{Fault, Refused, event_of, line_too_long, refusal_fault}
-use Rattle.unftp_control_defs.specs.FtpCommand.{Answer, InvalidCommand, InvalidUtf8, InvalidEol, Said}
+use Rattle.unftp_control_defs.specs.FtpCommand.{Outcome, InvalidCommand, InvalidUtf8, InvalidEol, Said}
 use Rattle.unftp_control_defs.specs.Said.{IsSaid}
 use Rattle.unftp_control_defs.specs.Outcome.{outcome}
 use Rattle.unftp_control_message.specs.declared.reply.error.parse_error.ParseErrorKind.{ParseErrorKind}
@@ -37,7 +37,7 @@ refused_left call line kind.InvalidEol refuses =
 refused_left call line kind.OutOfMemory refuses = absurd refuses
 
 -- a command is given as it is said
-pub said_given : (answer : Answer) (parts : Said) → IsSaid answer parts
+pub said_given : (answer : Outcome) (parts : Said) → IsSaid answer parts
     → given_for (event_of answer) ≡ given_of parts
 said_given (Ok command) parts says = ap given_of says.1
 said_given (Err refusal) parts says = absurd says.1

@@ -15,7 +15,7 @@ use Rattle.unftp_control_c.specs.declared.status.Status.{Status}
 use Rattle.unftp_control_c.specs.declared.status.Status.TheVariants.{Done, OutOfMemory}
 use Rattle.unftp_control_c.specs.Numbers.{status_number}
 use Rattle.unftp_control_c.specs.Areas.{Filled, Made, made, written}
-use Rattle.unftp_control_c.specs.Replies.{IsReplyOf, EncodesReply, parts_as_lines, lines_reply}
+use Rattle.unftp_control_c.specs.Replies.{IsReplyText, EncodesReply, parts_as_lines, lines_reply}
 use Rattle.unftp_control_c.proofs.AreaLemmas.{written_text}
 
 first_lacks : (b : ℕ) (parts : List Bytes) → b ≢ LF → AllByRecursion (Lacks LF) parts
@@ -43,7 +43,8 @@ lines_lack (part ∷ []) all = all
 lines_lack (part ∷ next ∷ parts) all =
     (lacks_stripped part all.0, lines_lack (next ∷ parts) all.1)
 
-plain : {code : ℕ} {text : Bytes} {reply : FtpReply} → IsReplyCode code → IsReplyOf code text reply
+plain : {code : ℕ} {text : Bytes} {reply : FtpReply} → IsReplyCode code
+    → IsReplyText code text reply
     → IsPlain reply
 plain {code} is_code (inl one) =
     subst IsPlain (sym one.1) (three_digits code is_code, one.0)
@@ -54,11 +55,11 @@ plain {code} {text} is_code (inr several) =
 -- what a client finds in the bytes of a reply
 pub reads_back : (code : ℕ) (text out : Bytes) (left : Filled)
     → (bytes : Made) × EncodesReply code text bytes × (left ≡ written bytes out)
-    → left.result ≡ status_number Done → (reply : FtpReply) × IsReplyOf code text reply
+    → left.result ≡ status_number Done → (reply : FtpReply) × IsReplyText code text reply
     × ReadsBack (take left.text_length left.area) (reply ∷ [])
 reads_back code text out left wrote done =
     rw wrote.2 (written_text
-    (λ bytes. (reply : FtpReply) × IsReplyOf code text reply × ReadsBack bytes (reply ∷ []))
+    (λ bytes. (reply : FtpReply) × IsReplyText code text reply × ReadsBack bytes (reply ∷ []))
     out wrote.0
     (λ e. subst (EncodesReply code text) e wrote.1)
     (λ found e.

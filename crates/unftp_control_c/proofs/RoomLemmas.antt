@@ -13,11 +13,11 @@ use lib.Pointwise.{bytes_decides}
 use Rattle.unftp_control_defs.specs.Bytes.{Bytes, SP}
 use Rattle.unftp_control_defs.specs.ComputedValue.{value_of}
 use Rattle.unftp_control_defs.specs.Events.{FtpEvent, Command, event_of}
-use Rattle.unftp_control_defs.specs.FtpCommand.{FtpCommand, Rest, Answer, InvalidCommand, InvalidUtf8, Nothing, Text, Value, command_by, kind, maybe_raw, maybe_text, unless_empty, verbs, word, Said}
+use Rattle.unftp_control_defs.specs.FtpCommand.{FtpCommand, Rest, Outcome, InvalidCommand, InvalidUtf8, Nothing, Text, Value, command_by, kind, maybe_raw, maybe_text, unless_empty, verbs, word, Said}
 use Rattle.unftp_control_defs.specs.Outcome.{outcome, parameter_answer, site_answer, value_answer, word_answer}
 use Rattle.unftp_control_defs.specs.Paths.{path_of}
 use Rattle.unftp_control_defs.specs.Rules.{auth, buffer_sizes, chosen, mechanisms, modes, offset, optional_text, options, protections, row_of, structures, subcommand_answer, taken, typed_answer}
-use Rattle.unftp_control_defs.specs.Said.{KindSaysBack, SaysBack, Tells, name_on_line, value_bytes}
+use Rattle.unftp_control_defs.specs.Said.{KindSaysBack, SaysBack, MeansCommand, name_on_line, value_bytes}
 use Rattle.unftp_control_defs.specs.Values.{ReadsLater, ends_crlf, ends_lf, cr_nul, byte, Reads, nothing, ended, ended_crlf, one_byte, first_cr_nul, first_byte}
 use Rattle.unftp_control_defs.specs.Verbs.{verb_of, parameter_of, upper, is_separator}
 use Rattle.unftp_control_defs.specs.declared.verb.Kind.{Kind}
@@ -40,10 +40,10 @@ said_room parts = length (given_of parts).name + length (given_of parts).value
 abbrev pub lengths : FtpEvent → ℕ
 lengths event = length (given_for event).name + length (given_for event).value
 
-abbrev room : Answer → ℕ
+abbrev room : Outcome → ℕ
 room answer = lengths (event_of answer)
 
-told : (answer : Answer) (parts : Said) → Tells answer parts → room answer ≡ said_room parts
+told : (answer : Outcome) (parts : Said) → MeansCommand answer parts → room answer ≡ said_room parts
 told (Ok command) parts tells = ap said_room tells
 told (Err refusal) parts tells = absurd tells
 

@@ -11,8 +11,8 @@ use Rattle.unftp_control_login.specs.declared.stage.Stage.TheVariants as gate
 use Rattle.unftp_control_c.specs.Next.{given_for}
 use Rattle.unftp_control_c.specs.declared.login.Progress.{Progress}
 use Rattle.unftp_control_c.specs.declared.login.Progress.TheVariants.{NoName, Named, LoggedIn, Asked}
-use Rattle.unftp_control_c.specs.declared.login.Step.{Step}
-use Rattle.unftp_control_c.specs.declared.login.Step.TheVariants.{PassOn, NeedPassword, AskAccounts, NeedName, NeedLogin}
+use Rattle.unftp_control_c.specs.declared.login.LoginStep.{LoginStep}
+use Rattle.unftp_control_c.specs.declared.login.LoginStep.TheVariants.{PassOn, NeedPassword, AskAccounts, NeedName, NeedLogin}
 
 -- How far a login has come, by the number that the caller keeps: any other is as no name.
 abbrev pub progress_of : ℕ → Progress
@@ -26,7 +26,7 @@ stage_number LoggedIn = 2
 stage_number Asked = 3
 
 -- the numbers of the steps for C
-abbrev pub step_number : Step → ℕ
+abbrev pub step_number : LoginStep → ℕ
 step_number PassOn = 0
 step_number NeedPassword = 1
 step_number AskAccounts = 2
@@ -45,15 +45,15 @@ is_open n = (n == number verb.Quit) || ((n == number verb.Auth) || ((n == number
 
 -- What is done with an event, by its number: a password follows a name, and else a name is asked
 -- for.
-abbrev pub step_at_password : Progress → Step
+abbrev pub step_at_password : Progress → LoginStep
 step_at_password Named = AskAccounts
 step_at_password progress = NeedName
 
-abbrev pub step_at_command : Progress → Bool → Step
+abbrev pub step_at_command : Progress → Bool → LoginStep
 step_at_command LoggedIn needs_none = PassOn
 step_at_command progress needs_none = if needs_none then PassOn else NeedLogin
 
-abbrev pub login_step : Progress → ℕ → Step
+abbrev pub login_step : Progress → ℕ → LoginStep
 login_step progress n = if n == number verb.User then NeedPassword else
     (if n == number verb.Pass then step_at_password progress else
     step_at_command progress (is_open n))
@@ -116,7 +116,7 @@ password_in (Command (Pass password)) = password
 password_in event = []
 
 -- what is done at each step, as a login gate has it
-abbrev pub decision_at : Step → Accounts → Bytes → FtpEvent → Decision
+abbrev pub decision_at : LoginStep → Accounts → Bytes → FtpEvent → Decision
 decision_at PassOn accepts name event = PassesOn event
 decision_at NeedPassword accepts name event = Answers password_needed
 decision_at AskAccounts accepts name event =

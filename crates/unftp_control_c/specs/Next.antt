@@ -3,7 +3,7 @@ use Rattle.std.specs.Prelude.{◌≡◌, ℕ, ◌==◌, ◌&&◌, ◌||◌, ◌�
 use Rattle.unftp_control_defs.specs.Bytes.{Bytes}
 use Rattle.unftp_control_defs.specs.Events.{FtpEvent, Command, Refused, event_of, line_too_long}
 use Rattle.unftp_control_defs.specs.Said.{word_and_value}
-use Rattle.unftp_control_defs.specs.FtpCommand.{Answer, number, Said, said}
+use Rattle.unftp_control_defs.specs.FtpCommand.{Outcome, number, Said, said}
 use Rattle.unftp_control_defs.specs.Outcome.{outcome}
 use Rattle.unftp_control_codecs.specs.Memory.{AnswerMayTakeMemory, MayTakeMemory}
 use Rattle.unftp_control_codecs.specs.Codec.{Codec}
@@ -158,7 +158,7 @@ LineMayTakeMemory call = (n : ℕ) × (is_valid call.connection (length call.byt
     × (first_of call ≡ Complete n) × MayTakeMemory (take n call.bytes)
 
 -- The command is given. Memory may run out for one that holds some, and is not in the line as it is.
-abbrev pub GivesCommand : Call → ℕ → Answer → Type 0 → Left → Type 0
+abbrev pub GivesCommand : Call → ℕ → Outcome → Type 0 → Left → Type 0
 GivesCommand call n answer in_line left = (left ≡ gives call n (given_for (event_of answer)))
     ⊎ (¬ in_line × AnswerMayTakeMemory answer × (left ≡ kept call OutOfMemory))
 

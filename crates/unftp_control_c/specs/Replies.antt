@@ -25,14 +25,14 @@ abbrev pub lines_reply : ℕ → Bytes → FtpReply
 lines_reply code text = MultiLine code (text_lines text)
 
 -- one line, or several
-abbrev pub IsReplyOf : ℕ → Bytes → FtpReply → Type 0
-IsReplyOf code text reply = (Lacks LF text × (reply ≡ CodeAndMsg code text))
+abbrev pub IsReplyText : ℕ → Bytes → FtpReply → Type 0
+IsReplyText code text reply = (Lacks LF text × (reply ≡ CodeAndMsg code text))
     ⊎ ((¬ Lacks LF text) × (reply ≡ lines_reply code text))
 
 -- the reply's bytes, or why there are none
 abbrev pub EncodesReply : ℕ → Bytes → Made → Type 0
 EncodesReply code text (Ok bytes) = IsReplyCode code × IsUtf8 text
-    × (reply : FtpReply) × IsReplyOf code text reply × (bytes ≡ encoded reply)
+    × (reply : FtpReply) × IsReplyText code text reply × (bytes ≡ encoded reply)
 EncodesReply code text (Err UnknownCode) = ¬ IsReplyCode code
 EncodesReply code text (Err InvalidUtf8) = IsReplyCode code × ¬ IsUtf8 text
 EncodesReply code text (Err OutOfMemory) = IsReplyCode code × IsUtf8 text

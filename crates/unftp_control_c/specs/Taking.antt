@@ -25,8 +25,8 @@ after_piece caller piece =
     record { connection = caller.connection; bytes = caller.bytes ++ piece }
 
 -- a call with this area
-abbrev pub call_of : Caller → Bytes → Call
-call_of caller area = call_with caller.connection caller.bytes area
+abbrev pub caller_call : Caller → Bytes → Call
+caller_call caller area = call_with caller.connection caller.bytes area
 
 -- the bytes that a call used up are dropped
 abbrev pub after_call : Caller → Left → Caller
@@ -43,7 +43,7 @@ abbrev pub AreCallerSteps : Caller → List CallerStep → Caller → Type 0
 AreCallerSteps before [] after = after ≡ before
 AreCallerSteps before (Received piece ∷ steps) after =
     AreCallerSteps (after_piece before piece) steps after
-AreCallerSteps before (Called area left ∷ steps) after = Leaves (call_of before area) left
+AreCallerSteps before (Called area left ∷ steps) after = Leaves (caller_call before area) left
     × AreCallerSteps (after_call before left) steps after
 
 -- a call with this result has no room or no memory: it uses nothing up, and may be made again
@@ -55,7 +55,7 @@ abbrev pub scanned_by : Caller → List CallerStep → ℕ
 scanned_by caller [] = 0
 scanned_by caller (Received piece ∷ steps) = scanned_by (after_piece caller piece) steps
 scanned_by caller (Called area left ∷ steps) =
-    (if is_made_again left.result then 0 else scans (call_of caller area))
+    (if is_made_again left.result then 0 else scans (caller_call caller area))
     + scanned_by (after_call caller left) steps
 
 -- how many of the pending bytes were not scanned yet

@@ -1,7 +1,7 @@
 //! A client's dialogue with a server: to which line each reply is.
 ghost use Rattle.std.specs.Prelude.{◌≡◌, ◌≢◌, ◌<◌, ◌-◌, ◌^◌, if◌then◌else◌};
 ghost use Rattle.unftp_control_defs.specs.Lines.{IsLine};
-ghost use Rattle.unftp_control_client.specs.Dialogue.{after_line, after_reply, commands_owed, next_to};
+ghost use Rattle.unftp_control_client.specs.Dialogue.{after_command, after_reply, commands_owed, next_to};
 ghost use Rattle.unftp_control_c.specs.Clients.{dialogue_of, may_begin_tls, place_in, to_number};
 ghost use Rattle.unftp_control_c.specs.Numbers.{status_number};
 ghost use Rattle.unftp_control_c.specs.declared.status.Status.TheVariants.{Done, InvalidArgument, NoLine};
@@ -74,7 +74,7 @@ pub extern "C" fn unftp_client_line(client: &mut Client, line: &[u8], place: &mu
         → (client.new ≡ client.old) × (place.new ≡ 0) }
     ensures is_line { IsLine line.now → client.old.sent < 2 ^ 64 - 1
         → (result ≡ status_number Done) × (place.new ≡ client.old.sent)
-        × (dialogue_of client.new ≡ after_line line.now (dialogue_of client.old)) }
+        × (dialogue_of client.new ≡ after_command line.now (dialogue_of client.old)) }
 {
     *place = 0;
     if !is_line(line) {

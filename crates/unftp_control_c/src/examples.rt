@@ -8,7 +8,7 @@ ghost use Rattle.unftp_control_c.specs.ForwardedLines.{IsForwardedLine};
 ghost use Rattle.unftp_control_c.specs.Next.{Leaves, LineMayTakeMemory, next_of, scans};
 ghost use Rattle.unftp_control_c.specs.Numbers.{forward_status};
 ghost use Rattle.unftp_control_c.specs.Rows.{a_call, leaving};
-ghost use Rattle.unftp_control_c.specs.Replies.{EncodesReply, IsFoundText, IsReplyOf, found_text, text_lines};
+ghost use Rattle.unftp_control_c.specs.Replies.{EncodesReply, IsFoundText, IsReplyText, found_text, text_lines};
 ghost use Rattle.unftp_control_c.specs.declared.status.Status.TheVariants.{InvalidCommand, InvalidEol, InvalidUtf8, Malformed, More, NoLine, OutOfMemory, UnknownCode};
 
 pub mod addresses;
@@ -76,9 +76,9 @@ pub fn replies_have_codes_and_lines()
     ensures not_utf8 { EncodesReply 200 (255 ∷ []) (Err InvalidUtf8) }
     ensures memory { EncodesReply 200 [] (Err OutOfMemory) }
     ensures no_memory { ¬ EncodesReply 600 [] (Err OutOfMemory) }
-    ensures one_line { IsReplyOf 200 (codes "a") (CodeAndMsg 200 (codes "a")) }
-    ensures two_lines { IsReplyOf 200 (codes "a\n") (MultiLine 200 (codes "a" ∷ [] ∷ [])) }
-    ensures cr_of_no_line { ¬ IsReplyOf 200 (codes "a\r\nb")
+    ensures one_line { IsReplyText 200 (codes "a") (CodeAndMsg 200 (codes "a")) }
+    ensures two_lines { IsReplyText 200 (codes "a\n") (MultiLine 200 (codes "a" ∷ [] ∷ [])) }
+    ensures cr_of_no_line { ¬ IsReplyText 200 (codes "a\r\nb")
         (MultiLine 200 (codes "a\r" ∷ codes "b" ∷ [])) }
 {}
 

@@ -10,9 +10,9 @@ ghost use Rattle.unftp_control_defs.specs.Said.{HasTypedFields};
 ghost use Rattle.unftp_control_defs.specs.Lines.{IsLine};
 ghost use Rattle.unftp_control_codecs.specs.LineFeed.{is_line_feed, line_feed_from};
 ghost use Rattle.unftp_control_defs.specs.Turns.{is_preliminary};
-ghost use Rattle.unftp_control_client.specs.Dialogue.{after_line, after_reply, commands_owed, next_to};
+ghost use Rattle.unftp_control_client.specs.Dialogue.{after_command, after_reply, commands_owed, next_to};
 ghost use Rattle.unftp_control_client.specs.ForwardingSteps.{Answered, AreForwardingSteps, ForwardingStep, IsForwardingStep, Passed, replies_given};
-ghost use Rattle.unftp_control_client.specs.Steps.{AreDialogueSteps, AreExchanges, ClientStep, EndsInAgreement, ReplyTo, Sent, Took, replies_owed};
+ghost use Rattle.unftp_control_client.specs.Steps.{AreDialogueSteps, AreExchanges, ClientStep, EndsInAgreement, ReplyTo, SentLine, Took, replies_owed};
 ghost use Rattle.unftp_control_client.specs.declared.dialogue.To.TheVariants.{Greeting, Nothing};
 ghost use Rattle.unftp_control_log.specs.Known.{known};
 ghost use Rattle.unftp_control_log.specs.LogLine.{IsPrintable, logged};
@@ -25,10 +25,10 @@ ghost use Rattle.unftp_control_c.specs.Logins.{Kept, decision_at, kept_after, ke
 ghost use Rattle.unftp_control_c.specs.Next.{Call, Given, Leaves, Left, given_for, line_limit, scans};
 ghost use Rattle.unftp_control_c.specs.Numbers.{status_number};
 ghost use Rattle.unftp_control_c.specs.Replies.{EncodesReply, IsFoundText};
-ghost use Rattle.unftp_control_c.specs.Taking.{AreCallerSteps, Caller, CallerStep, IsNumberOf, after_call, all_given, call_of, gives_none, input_of, new_caller, scanned_by, unscanned};
+ghost use Rattle.unftp_control_c.specs.Taking.{AreCallerSteps, Caller, CallerStep, IsNumberOf, after_call, all_given, caller_call, gives_none, input_of, new_caller, scanned_by, unscanned};
 ghost use Rattle.unftp_control_c.specs.declared.client.Client.{Client as RustClient};
 ghost use Rattle.unftp_control_c.specs.declared.login.Progress.{Progress};
-ghost use Rattle.unftp_control_c.specs.declared.login.Step.TheVariants.{PassOn};
+ghost use Rattle.unftp_control_c.specs.declared.login.LoginStep.TheVariants.{PassOn};
 ghost use Rattle.unftp_control_c.specs.declared.status.Status.TheVariants.{LineTooLong, More, NoRoom, OutOfMemory};
 
 /// Whatever a caller receives, and whenever it calls `unftp_next`, with whatever areas: its calls
@@ -41,12 +41,12 @@ pub fn calls_take_events()
         ≡ map given_for (events (line_limit limit) (input_of steps))) }
     ensures all { (limit : ℕ) (steps : List CallerStep) (after : Caller) (area : Bytes)
         (left : Left) → AreCallerSteps (new_caller limit) steps after
-        → Leaves (call_of after area) left → left.result ≡ status_number More
+        → Leaves (caller_call after area) left → left.result ≡ status_number More
         → all_given steps ≡ map given_for (events (line_limit limit) (input_of steps)) }
     // A call that uses nothing up asks for more, or has no room or no memory.
     ensures nothing_used { (limit : ℕ) (steps : List CallerStep) (after : Caller) (area : Bytes)
         (left : Left) → AreCallerSteps (new_caller limit) steps after
-        → Leaves (call_of after area) left → left.line.used ≡ 0
+        → Leaves (caller_call after area) left → left.line.used ≡ 0
         → gives_none left.result ≡ true }
 {}
 
@@ -54,15 +54,15 @@ pub fn calls_take_events()
 pub fn calls_are_made_again()
     // Nothing has changed.
     ensures kept { (caller : Caller) (area : Bytes) (left : Left)
-        → Leaves (call_of caller area) left
+        → Leaves (caller_call caller area) left
         → (left.result ≡ status_number NoRoom) ⊎ (left.result ≡ status_number OutOfMemory)
         → after_call caller left ≡ caller }
     // With an area of the lengths that a call without room reports, or a greater one, the next call
     // gives the line, or has no memory.
     ensures room { (caller : Caller) (area wider : Bytes) (left again : Left)
-        → Leaves (call_of caller area) left → left.result ≡ status_number NoRoom
+        → Leaves (caller_call caller area) left → left.result ≡ status_number NoRoom
         → left.line.name_len + left.line.value_len ≤ length wider
-        → Leaves (call_of caller wider) again
+        → Leaves (caller_call caller wider) again
         → (again.result ≡ status_number OutOfMemory) ⊎ (gives_none again.result ≡ false) }
 {}
 
@@ -70,11 +70,11 @@ pub fn calls_are_made_again()
 /// changes the limit.
 pub fn pending_bytes_are_bounded()
     ensures fewer { (caller : Caller) (area : Bytes) (left : Left)
-        → Leaves (call_of caller area) left → left.result ≡ status_number More
+        → Leaves (caller_call caller area) left → left.result ≡ status_number More
         → 1 ≤ caller.connection.limit
         → length (after_call caller left).bytes < caller.connection.limit }
     ensures limit { (caller : Caller) (area : Bytes) (left : Left)
-        → Leaves (call_of caller area) left
+        → Leaves (caller_call caller area) left
         → left.connection.limit ≡ caller.connection.limit }
 {}
 
@@ -87,7 +87,7 @@ pub fn bytes_are_scanned_once()
         → scanned_by (new_caller limit) steps + unscanned after ≡ length (input_of steps) }
     // No call scans more than these, also one that is made again.
     ensures each { (caller : Caller) (area : Bytes)
-        → scans (call_of caller area) ≤ unscanned caller }
+        → scans (caller_call caller area) ≤ unscanned caller }
 {}
 
 /// What is given says the event.
@@ -152,8 +152,8 @@ pub fn log_lines_are_logged()
 /// preliminary ones and then a final one each (RFC 959, sections 4.2 and 5.4).
 pub fn client_calls_are_a_dialogue()
     ensures line { (before after : RustClient) (line : Bytes)
-        → dialogue_of after ≡ after_line line (dialogue_of before)
-        → AreDialogueSteps (dialogue_of before) (Sent line ∷ []) (dialogue_of after) }
+        → dialogue_of after ≡ after_command line (dialogue_of before)
+        → AreDialogueSteps (dialogue_of before) (SentLine line ∷ []) (dialogue_of after) }
     // The number and the place say what the reply is to.
     ensures reply { (before after : RustClient) (taken : ReplyTo)
         → to_number taken.to ≡ to_number (next_to (dialogue_of before))

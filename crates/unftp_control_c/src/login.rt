@@ -31,7 +31,7 @@ pub enum Progress {
 
 /// What a server does with an event.
 #[derive(Clone, Copy)]
-pub enum Step {
+pub enum LoginStep {
     /// It answers the event as it would without a login.
     PassOn = 0,
     /// It keeps the name, and asks for the password.
@@ -65,22 +65,22 @@ impl Progress {
     }
 
     /// What is done with the event of a number.
-    fn step(self, event: u32) -> Step
+    fn step(self, event: u32) -> LoginStep
         ensures { result ≡ login_step self event }
     {
         if event == Verb::User.number() {
-            return Step::NeedPassword;
+            return LoginStep::NeedPassword;
         }
         if event == Verb::Pass.number() {
             return match self {
-                Progress::Named => Step::AskAccounts,
-                _ => Step::NeedName,
+                Progress::Named => LoginStep::AskAccounts,
+                _ => LoginStep::NeedName,
             };
         }
         match self {
-            Progress::LoggedIn => Step::PassOn,
-            _ if is_open(event) => Step::PassOn,
-            _ => Step::NeedLogin,
+            Progress::LoggedIn => LoginStep::PassOn,
+            _ if is_open(event) => LoginStep::PassOn,
+            _ => LoginStep::NeedLogin,
         }
     }
 
@@ -102,7 +102,7 @@ impl Progress {
     }
 }
 
-impl Step {
+impl LoginStep {
     /// Its number.
     fn number(self) -> u32
         ensures { result ≡ step_number self }

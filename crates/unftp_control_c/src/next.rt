@@ -1,7 +1,7 @@
 //! The next event of the pending bytes.
 ghost use Rattle.std.specs.Prelude.{◌≡◌, true, false, length};
 ghost use Rattle.unftp_control_defs.specs.Bytes.{Bytes};
-ghost use Rattle.unftp_control_defs.specs.FtpCommand.{Answer};
+ghost use Rattle.unftp_control_defs.specs.FtpCommand.{Outcome};
 ghost use Rattle.unftp_control_defs.specs.Said.{IsSaid};
 ghost use Rattle.unftp_control_message.specs.PartsMeaning.{AreInPlace, IsInPlace, said_of, spelled};
 ghost use Rattle.unftp_control_c.specs.Next.{GivesCommand, Leaves, LeavesLine, call_with, codec_of, given_of, gives, is_valid, left_with, meant, no_lengths, resumed, scans, used_up};
@@ -175,7 +175,7 @@ fn give_command(
     line: &mut Line,
 ) -> u32
     requires { line.old ≡ no_lengths }
-    ensures { (answer : Answer) → IsSaid answer (said_of parts.entry)
+    ensures { (answer : Outcome) → IsSaid answer (said_of parts.entry)
         → (pending : Bytes) → GivesCommand (call_with connection.old pending area.old) taken
         answer (AreInPlace parts.entry) (left_with result connection.new area.new line.new) }
 {
@@ -199,7 +199,7 @@ fn give_made(
     line: &mut Line,
 ) -> u32
     requires { line.old ≡ no_lengths }
-    ensures { (answer : Answer) → IsSaid answer (said_of parts.entry)
+    ensures { (answer : Outcome) → IsSaid answer (said_of parts.entry)
         → (pending : Bytes) → GivesCommand (call_with connection.old pending area.old) taken
         answer ⊥ (left_with result connection.new area.new line.new) }
 {

@@ -7,7 +7,7 @@ ghost use Rattle.unftp_control_defs.specs.ReplyReader.{FrontReply, IsMalformed, 
 ghost use Rattle.unftp_control_codecs.specs.ReplyCodes.{IsReplyCode};
 ghost use Rattle.unftp_control_c.specs.Areas.{Made, filled, written};
 ghost use Rattle.unftp_control_c.specs.Numbers.{status_number};
-ghost use Rattle.unftp_control_c.specs.Replies.{EncodesReply, IsReplyOf, lines_reply, text_lines};
+ghost use Rattle.unftp_control_c.specs.Replies.{EncodesReply, IsReplyText, lines_reply, text_lines};
 ghost use Rattle.unftp_control_c.specs.declared.status.Status.TheVariants.{Done, More, Malformed, OutOfMemory};
 
 use crate::areas::{overwrite_both, write};
@@ -34,7 +34,7 @@ pub extern "C" fn unftp_reply(
         ≡ written bytes out.old) }
     // A client finds exactly this reply in the bytes.
     ensures read_back { result ≡ status_number Done
-        → (reply : FtpReply) × IsReplyOf code text.now reply
+        → (reply : FtpReply) × IsReplyText code text.now reply
         × ReadsBack (take len.new out.new) (reply ∷ []) }
 {
     if !is_reply_code(code) {

@@ -2,8 +2,8 @@
 use Rattle.std.proofs.Common.{◌≡◌, ◌&&◌, ◌==◌, ℕ, suc, Bool, true, false, if◌then◌else◌, List, [], ◌∷◌, ◌++◌, length, Option, Some, None, ◌-◌, unwrap_or, refl, sym, ap, subst, ◌∙◌, arith, eqb-true, append_assoc, append-nil, length-append}
 use Rattle.unftp_control_defs.specs.Bytes.{Bytes}
 use Rattle.unftp_control_defs.specs.Turns.{is_preliminary}
-use Rattle.unftp_control_client.specs.Dialogue.{agrees, after_final, after_line, after_reply, asks_for_tls, commands_owed, is_place, next_to}
-use Rattle.unftp_control_client.specs.Steps.{AreDialogueSteps, ClientStep, EndsInAgreement, ReplyTo, Sent, Received, Took, lines_sent, replies_taken}
+use Rattle.unftp_control_client.specs.Dialogue.{agrees, after_final, after_command, after_reply, asks_for_tls, commands_owed, is_place, next_to}
+use Rattle.unftp_control_client.specs.Steps.{AreDialogueSteps, ClientStep, EndsInAgreement, ReplyTo, SentLine, Received, Took, lines_sent, replies_taken}
 use Rattle.unftp_control_client.specs.declared.dialogue.Dialogue.{Dialogue}
 use Rattle.unftp_control_client.specs.declared.dialogue.To.{To}
 use Rattle.unftp_control_client.specs.declared.dialogue.To.TheVariants.{Greeting, Command, Nothing}
@@ -60,7 +60,7 @@ module _ (lines : List Bytes) (replies : List ReplyTo) (d : Dialogue) (kept : Ke
   }
   asked_by false asks place e = AsksAt-more lines (line ∷ []) place (kept.asked place e)
 
-  Kept-sent : Kept (lines ++ line ∷ []) replies (after_line line d)
+  Kept-sent : Kept (lines ++ line ∷ []) replies (after_command line d)
   Kept-sent = record {
     count = omega (arith, kept.count, length-append lines (line ∷ []));
     asked = asked_by (asks_for_tls line) refl;
@@ -141,7 +141,7 @@ steps-kept [] before after lines replies kept are =
     subst (λ lines. Kept lines (replies ++ []) after) (sym (append-nil lines))
     (subst (λ replies. Kept lines replies after) (sym (append-nil replies))
     (subst (λ d. Kept lines replies d) (sym are) kept))
-steps-kept (Sent line ∷ steps) before after lines replies kept (next, step, are) =
+steps-kept (SentLine line ∷ steps) before after lines replies kept (next, step, are) =
     subst (λ lines. Kept lines (replies ++ replies_taken steps) after)
     (append_assoc lines (line ∷ []) (lines_sent steps))
     (steps-kept steps next after (lines ++ line ∷ []) replies

@@ -5,8 +5,8 @@ use Rattle.std.specs.List.{filter}
 use Rattle.unftp_control_defs.specs.Bytes.{Bytes}
 use Rattle.unftp_control_defs.specs.TakingSteps.{AreTakingSteps, TakesReply}
 use Rattle.unftp_control_defs.specs.Turns.{is_preliminary}
-use Rattle.unftp_control_client.specs.Dialogue.{after_line, after_final, after_reply, first_owed, next_to}
-use Rattle.unftp_control_client.specs.Steps.{AreDialogueSteps, AreExchanges, AreSteps, ClientStep, IsDialogueStep, ReplyTo, Sent, Received, Took, lines_sent, decoder_steps, is_final, replies_owed, replies_taken, was_owed}
+use Rattle.unftp_control_client.specs.Dialogue.{after_command, after_final, after_reply, first_owed, next_to}
+use Rattle.unftp_control_client.specs.Steps.{AreDialogueSteps, AreExchanges, AreClientSteps, ClientStep, IsDialogueStep, ReplyTo, SentLine, Received, Took, lines_sent, decoder_steps, is_final, replies_owed, replies_taken, was_owed}
 use Rattle.unftp_control_client.specs.declared.Client.{Client}
 use Rattle.unftp_control_client.specs.declared.dialogue.Dialogue.{Dialogue}
 use Rattle.unftp_control_client.specs.declared.dialogue.To.{To}
@@ -136,7 +136,7 @@ pub dialogue-exchanges : (steps : List ClientStep) (before after : Dialogue)
     → AreDialogueSteps before steps after
     → AreExchanges (open_exchange before.answered) (replies_owed steps)
 dialogue-exchanges [] before after are = tt
-dialogue-exchanges (Sent line ∷ steps) before after (next, step, are) =
+dialogue-exchanges (SentLine line ∷ steps) before after (next, step, are) =
     subst (λ (d : Dialogue). AreExchanges (open_exchange d.answered) (replies_owed steps)) step
     (dialogue-exchanges steps next after are)
 dialogue-exchanges (Received piece ∷ steps) before after (next, step, are) =
@@ -150,7 +150,7 @@ dialogue-sent : (steps : List ClientStep) (before after : Dialogue)
     → AreDialogueSteps before steps after
     → after.sent ≡ before.sent + length (lines_sent steps)
 dialogue-sent [] before after are = omega (arith, ap (λ (d : Dialogue). d.sent) are)
-dialogue-sent (Sent line ∷ steps) before after (next, step, are) =
+dialogue-sent (SentLine line ∷ steps) before after (next, step, are) =
     omega (arith, ap (λ (d : Dialogue). d.sent) step, dialogue-sent steps next after are)
 dialogue-sent (Received piece ∷ steps) before after (next, step, are) =
     omega (arith, ap (λ (d : Dialogue). d.sent) step, dialogue-sent steps next after are)
@@ -163,7 +163,7 @@ dialogue-complete : (steps : List ClientStep) (before after : Dialogue)
     ≡ complete before.answered + length (filter is_final (replies_owed steps))
 dialogue-complete [] before after are =
     omega (arith, ap (λ (d : Dialogue). complete d.answered) are)
-dialogue-complete (Sent line ∷ steps) before after (next, step, are) =
+dialogue-complete (SentLine line ∷ steps) before after (next, step, are) =
     omega (
       arith,
       ap (λ (d : Dialogue). complete d.answered) step,
@@ -181,26 +181,28 @@ dialogue-complete (Took taken ∷ steps) before after (next, step, are) =
 
 -- Steps of a client are steps of its dialogue.
 pub steps-dialogue : (steps : List ClientStep) (before after : Client)
-    → AreSteps before steps after → AreDialogueSteps before.dialogue steps after.dialogue
+    → AreClientSteps before steps after → AreDialogueSteps before.dialogue steps after.dialogue
 steps-dialogue [] before after are = are.0
 steps-dialogue (step ∷ steps) before after (next, is, are) =
     (next.dialogue, is.0, steps-dialogue steps next after are)
 
 pub steps-exchanges : (steps : List ClientStep) (before after : Client)
-    → AreSteps before steps after
+    → AreClientSteps before steps after
     → AreExchanges (open_exchange before.dialogue.answered) (replies_owed steps)
 steps-exchanges steps before after are = dialogue-exchanges steps before.dialogue after.dialogue
     (steps-dialogue steps before after are)
 
-pub steps-sent : (steps : List ClientStep) (before after : Client) → AreSteps before steps after
+pub steps-sent : (steps : List ClientStep) (before after : Client)
+    → AreClientSteps before steps after
     → after.dialogue.sent ≡ before.dialogue.sent + length (lines_sent steps)
 steps-sent steps before after are = dialogue-sent steps before.dialogue after.dialogue
     (steps-dialogue steps before after are)
 
-pub steps-taken : (steps : List ClientStep) (before after : Client) → AreSteps before steps after
+pub steps-taken : (steps : List ClientStep) (before after : Client)
+    → AreClientSteps before steps after
     → AreTakingSteps TakesReply before.replies.bytes (decoder_steps steps) after.replies.bytes
 steps-taken [] before after are = are.1
-steps-taken (Sent line ∷ steps) before after (next, step, are) =
+steps-taken (SentLine line ∷ steps) before after (next, step, are) =
     subst (λ bytes. AreTakingSteps TakesReply bytes (decoder_steps steps) after.replies.bytes)
     step.1 (steps-taken steps next after are)
 steps-taken (Received piece ∷ steps) before after (next, step, are) =
@@ -214,10 +216,10 @@ steps-taken (Took taken ∷ steps) before after (next, step, are) =
 -- those of a client that is as another
 from_same : (steps : List ClientStep) (before same after : Client)
     → same.dialogue ≡ before.dialogue → same.replies.bytes ≡ before.replies.bytes
-    → AreSteps same steps after → AreSteps before steps after
+    → AreClientSteps same steps after → AreClientSteps before steps after
 from_same [] before same after d b are = (are.0 ∙ d, are.1 ∙ b)
-from_same (Sent line ∷ steps) before same after d b (next, step, are) =
-    (next, (step.0 ∙ ap (after_line line) d, step.1 ∙ b), are)
+from_same (SentLine line ∷ steps) before same after d b (next, step, are) =
+    (next, (step.0 ∙ ap (after_command line) d, step.1 ∙ b), are)
 from_same (Received piece ∷ steps) before same after d b (next, step, are) =
     (next, (step.0 ∙ d, step.1 ∙ ap (λ bytes. bytes ++ piece) b), are)
 from_same (Took taken ∷ steps) before same after d b (next, (step, takes), are) = (
@@ -230,8 +232,8 @@ from_same (Took taken ∷ steps) before same after d b (next, (step, takes), are
 )
 
 pub steps-append : (first later : List ClientStep) (before middle after : Client)
-    → AreSteps before first middle → AreSteps middle later after
-    → AreSteps before (first ++ later) after
+    → AreClientSteps before first middle → AreClientSteps middle later after
+    → AreClientSteps before (first ++ later) after
 steps-append [] later before middle after are more =
     from_same later before middle after are.0 are.1 more
 steps-append (step ∷ first) later before middle after (next, is, are) more =

@@ -10,8 +10,8 @@ use Rattle.unftp_control_client.specs.declared.dialogue.To.TheVariants.{Greeting
 use Rattle.unftp_control_client.specs.declared.dialogue.Dialogue.{Dialogue}
 
 -- nothing was sent or received
-abbrev pub at_start : Dialogue
-at_start = record { sent = 0; answered = None; asked = None; agreed = false }
+abbrev pub new_dialogue : Dialogue
+new_dialogue = record { sent = 0; answered = None; asked = None; agreed = false }
 
 -- how many commands are owed their final reply
 abbrev pub commands_owed : Dialogue → ℕ
@@ -27,8 +27,8 @@ asks_for_tls line = str_eq_ignore_ascii_case line (codes "AUTH TLS\r\n")
     || str_eq_ignore_ascii_case line (codes "AUTH SSL\n")
 
 -- One more command was sent, with this line.
-abbrev pub after_line : Bytes → Dialogue → Dialogue
-after_line line dialogue = record dialogue {
+abbrev pub after_command : Bytes → Dialogue → Dialogue
+after_command line dialogue = record dialogue {
   sent = suc dialogue.sent;
   asked = if asks_for_tls line then Some dialogue.sent else dialogue.asked;
 }

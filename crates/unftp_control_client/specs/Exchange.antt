@@ -3,7 +3,7 @@ use Rattle.std.specs.Prelude.{◌≡◌, ℕ, IsTrue, [], ◌-◌, ◌^◌, Opti
 use Rattle.unftp_control_read.specs.ReplyDecoding.{NextReply, no_bytes}
 use Rattle.unftp_control_write.specs.declared.WriteCommandError.{WriteCommandError}
 use Rattle.unftp_control_write.specs.declared.WriteCommandError.TheVariants as refusal
-use Rattle.unftp_control_client.specs.Dialogue.{after_reply, at_start, commands_owed, next_to}
+use Rattle.unftp_control_client.specs.Dialogue.{after_reply, new_dialogue, commands_owed, next_to}
 use Rattle.unftp_control_client.specs.declared.Client.{Client}
 use Rattle.unftp_control_client.specs.declared.dialogue.ClientReply.{ClientReply}
 use Rattle.unftp_control_client.specs.declared.dialogue.Dialogue.{Dialogue}
@@ -12,7 +12,7 @@ use Rattle.unftp_control_client.specs.declared.errors.SendError.TheVariants.{NoL
 
 -- a client that has sent and received nothing
 abbrev pub new_client : Option ℕ → Client
-new_client limit = record { replies = no_bytes limit; dialogue = at_start }
+new_client limit = record { replies = no_bytes limit; dialogue = new_dialogue }
 
 -- the error that a refusal is
 abbrev pub send_error_of : WriteCommandError → SendError

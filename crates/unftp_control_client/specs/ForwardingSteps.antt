@@ -4,7 +4,7 @@ use Rattle.std.specs.Prelude.{◌≡◌, ℕ, suc, ◌+◌, List, [], ◌∷◌,
 use Rattle.unftp_control_defs.specs.Bytes.{Bytes}
 use Rattle.unftp_control_defs.specs.Turns.{is_preliminary}
 use Rattle.unftp_control_client.specs.Dialogue.{commands_owed}
-use Rattle.unftp_control_client.specs.Steps.{IsDialogueStep, ReplyTo, Sent, Took, was_owed}
+use Rattle.unftp_control_client.specs.Steps.{IsDialogueStep, ReplyTo, SentLine, Took, was_owed}
 use Rattle.unftp_control_client.specs.declared.dialogue.Dialogue.{Dialogue}
 use Rattle.unftp_control_client.specs.declared.dialogue.To.{To}
 use Rattle.unftp_control_client.specs.declared.dialogue.To.TheVariants.{Greeting, Command, Nothing}
@@ -22,7 +22,7 @@ IsGreeted (Some answered) = ⊤
 -- It passes on only a reply that is owed: one to nothing ends the session. It answers a line only
 -- where the server has greeted, no command is owed its final reply, and by a final reply.
 abbrev pub IsForwardingStep : Dialogue → ForwardingStep → Dialogue → Type 0
-IsForwardingStep before (Forwarded line) after = IsDialogueStep before (Sent line) after
+IsForwardingStep before (Forwarded line) after = IsDialogueStep before (SentLine line) after
 IsForwardingStep before (Passed taken) after =
     IsDialogueStep before (Took taken) after × IsTrue (was_owed taken)
 IsForwardingStep before (Answered reply) after =

@@ -6,7 +6,7 @@ use Rattle.unftp_control_defs.specs.TakingSteps.{TakesReply, TakingStep, Pushed,
 use Rattle.unftp_control_read.specs.ReplyDecoding.{content}
 use Rattle.unftp_control_defs.specs.Turns.{is_preliminary}
 pub use Rattle.unftp_control_client.specs.Dialogue.{is_something}
-use Rattle.unftp_control_client.specs.Dialogue.{after_line, after_reply, asks_for_tls, next_to}
+use Rattle.unftp_control_client.specs.Dialogue.{after_command, after_reply, asks_for_tls, next_to}
 use Rattle.unftp_control_client.specs.declared.Client.{Client}
 use Rattle.unftp_control_client.specs.declared.dialogue.ClientReply.{ClientReply}
 use Rattle.unftp_control_client.specs.declared.dialogue.Dialogue.{Dialogue}
@@ -30,27 +30,27 @@ pub data ClientStep : Type 0 where
 
 -- what each changes of how far the dialogue has come
 abbrev pub IsDialogueStep : Dialogue → ClientStep → Dialogue → Type 0
-IsDialogueStep before (Sent line) after = after ≡ after_line line before
+IsDialogueStep before (SentLine line) after = after ≡ after_command line before
 IsDialogueStep before (Received piece) after = after ≡ before
 IsDialogueStep before (Took taken) after =
     (taken.to ≡ next_to before) × (after ≡ after_reply before taken.reply.0)
 
 -- and of the pending bytes
 abbrev pub ChangesBytes : Bytes → ClientStep → Bytes → Type 0
-ChangesBytes before (Sent line) after = after ≡ before
+ChangesBytes before (SentLine line) after = after ≡ before
 ChangesBytes before (Received piece) after = after ≡ before ++ piece
 ChangesBytes before (Took taken) after = TakesReply before taken.reply after
 
-abbrev pub IsStep : Client → ClientStep → Client → Type 0
-IsStep before step after = IsDialogueStep before.dialogue step after.dialogue
+abbrev pub IsClientStep : Client → ClientStep → Client → Type 0
+IsClientStep before step after = IsDialogueStep before.dialogue step after.dialogue
     × ChangesBytes before.replies.bytes step after.replies.bytes
 
 -- one after the other
-abbrev pub AreSteps : Client → List ClientStep → Client → Type 0
-AreSteps before [] after = (after.dialogue ≡ before.dialogue)
+abbrev pub AreClientSteps : Client → List ClientStep → Client → Type 0
+AreClientSteps before [] after = (after.dialogue ≡ before.dialogue)
     × (after.replies.bytes ≡ before.replies.bytes)
-AreSteps before (step ∷ steps) after =
-    (next : Client) × IsStep before step next × AreSteps next steps after
+AreClientSteps before (step ∷ steps) after =
+    (next : Client) × IsClientStep before step next × AreClientSteps next steps after
 
 -- of a caller that keeps the bytes itself
 abbrev pub AreDialogueSteps : Dialogue → List ClientStep → Dialogue → Type 0
@@ -59,12 +59,12 @@ AreDialogueSteps before (step ∷ steps) after =
     (next : Dialogue) × IsDialogueStep before step next × AreDialogueSteps next steps after
 
 -- the lines that were sent
-abbrev pub sent_by : ClientStep → Option Bytes
-sent_by (Sent line) = Some line
-sent_by _ = None
+abbrev pub sent_line : ClientStep → Option Bytes
+sent_line (SentLine line) = Some line
+sent_line _ = None
 
 abbrev pub lines_sent : List ClientStep → List Bytes
-lines_sent steps = filter_map sent_by steps
+lines_sent steps = filter_map sent_line steps
 
 -- the replies that were taken
 abbrev pub taken_by : ClientStep → Option ReplyTo
@@ -83,7 +83,7 @@ replies_owed steps = filter was_owed (replies_taken steps)
 
 -- what comes from the server, and what is taken of it
 abbrev pub decoder_step : ClientStep → Option (TakingStep (ℕ × List Bytes))
-decoder_step (Sent line) = None
+decoder_step (SentLine line) = None
 decoder_step (Received piece) = Some (Pushed piece)
 decoder_step (Took taken) = Some (Taken taken.reply)
 

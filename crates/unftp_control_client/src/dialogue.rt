@@ -2,7 +2,7 @@
 ghost use Rattle.std.specs.Prelude.{◌≡◌, ◌↔◌, ◌-◌, ◌^◌, IsTrue, MatchOption};
 ghost use Rattle.std.specs.Str.{str_eq_ignore_ascii_case};
 ghost use Rattle.unftp_control_defs.specs.Turns.{is_preliminary};
-ghost use Rattle.unftp_control_client.specs.Dialogue.{after_line, after_reply, asks_for_tls, at_start, awaits_tls, commands_owed, next_to, owes_reply};
+ghost use Rattle.unftp_control_client.specs.Dialogue.{after_command, after_reply, asks_for_tls, new_dialogue, awaits_tls, commands_owed, next_to, owes_reply};
 ghost use Rattle.unftp_control_client.specs.Steps.{reply_to};
 ghost use Rattle.unftp_control_client.specs.declared.dialogue.ClientReply.{ClientReply as RustReply};
 ghost use Rattle.unftp_control_client.specs.declared.dialogue.To.{To as RustTo};
@@ -82,7 +82,7 @@ fn is_spelled(line: &[u8], text: &[u8]) -> bool
 impl Dialogue {
     /// Nothing was sent or received.
     pub fn new() -> Dialogue
-        ensures { result ≡ at_start }
+        ensures { result ≡ new_dialogue }
     {
         Dialogue {
             sent: 0,
@@ -125,7 +125,7 @@ impl Dialogue {
     pub fn add_line(&mut self, line: &[u8]) -> Option<u64>
         ensures { MatchOption result
             ((self.new ≡ self.old) × (self.old.sent ≡ 2 ^ 64 - 1))
-            (λ place. (self.new ≡ after_line line.now self.old) × (place ≡ self.old.sent)) }
+            (λ place. (self.new ≡ after_command line.now self.old) × (place ≡ self.old.sent)) }
     {
         let place = self.sent;
         self.sent = place.checked_add(1)?;

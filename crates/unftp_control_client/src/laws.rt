@@ -8,10 +8,10 @@ ghost use Rattle.unftp_control_read.specs.ReplyDecoding.{TakesFirst, TakesNextRe
 ghost use Rattle.unftp_control_read.specs.Receiving.{Receives};
 ghost use Rattle.unftp_control_read.specs.declared.errors.NextReplyError.{NextReplyError};
 ghost use Rattle.unftp_control_read.specs.declared.errors.ReceiveError.{ReceiveError};
-ghost use Rattle.unftp_control_client.specs.Dialogue.{after_line, at_start, commands_owed};
+ghost use Rattle.unftp_control_client.specs.Dialogue.{after_command, new_dialogue, commands_owed};
 ghost use Rattle.unftp_control_client.specs.Exchange.{IsNext, new_client};
 ghost use Rattle.unftp_control_client.specs.ForwardingSteps.{AreForwardingSteps, ForwardingStep, IsGreeted, is_line, replies_given};
-ghost use Rattle.unftp_control_client.specs.Steps.{AreDialogueSteps, AreExchanges, AreSteps, ClientStep, EndsInAgreement, Received, Sent, Took, lines_sent, decoder_steps, is_final, replies_owed, reply_to};
+ghost use Rattle.unftp_control_client.specs.Steps.{AreDialogueSteps, AreExchanges, AreClientSteps, ClientStep, EndsInAgreement, Received, SentLine, Took, lines_sent, decoder_steps, is_final, replies_owed, reply_to};
 ghost use Rattle.unftp_control_client.specs.declared.Client.{Client as RustClient};
 ghost use Rattle.unftp_control_client.specs.declared.dialogue.ClientReply.{ClientReply as RustReply};
 ghost use Rattle.unftp_control_client.specs.declared.dialogue.Dialogue.{Dialogue as RustDialogue};
@@ -22,23 +22,23 @@ ghost use Rattle.unftp_control_client.specs.declared.dialogue.To.TheVariants.{Gr
 /// runs. A call of `send` or `receive` that fails leaves the client as it was.
 pub fn calls_are_steps()
     ensures send { (before after : RustClient) (line : Bytes)
-        → after ≡ record before { dialogue = after_line line before.dialogue }
-        → AreSteps before (Sent line ∷ []) after }
+        → after ≡ record before { dialogue = after_command line before.dialogue }
+        → AreClientSteps before (SentLine line ∷ []) after }
     ensures receive { (before after : RustClient) (piece : Bytes)
         → after ≡ record before { replies = pushed before.replies piece }
-        → AreSteps before (Received piece ∷ []) after }
+        → AreClientSteps before (Received piece ∷ []) after }
     ensures next_reply { (before after : RustClient) (taken : RustReply)
         → TakesFirst before.replies (content taken.reply) after.replies
         → IsNext {E = Unit {0}} before.dialogue (Ok (Some taken)) after.dialogue
-        → AreSteps before (Took (reply_to taken) ∷ []) after }
+        → AreClientSteps before (Took (reply_to taken) ∷ []) after }
     ensures none { (before after : RustClient)
         → TakesNextReply before.replies (Ok None) after.replies
         → IsNext {E = NextReplyError} before.dialogue (Ok None) after.dialogue
-        → AreSteps before [] after }
+        → AreClientSteps before [] after }
     ensures failed { (before after : RustClient) (error : NextReplyError)
         → TakesNextReply before.replies (Err error) after.replies
         → IsNext before.dialogue (Err error) after.dialogue
-        → AreSteps before [] after }
+        → AreClientSteps before [] after }
 {}
 
 /// So are the calls of `read_reply`: what they read is received, also where they take none or fail.
@@ -46,19 +46,20 @@ pub fn reads_are_steps()
     ensures read_reply { (before after : RustClient) (taken : RustReply) (input left : InputState)
         (receives : Receives before.replies input (Ok (Some taken.reply)) after.replies left)
         → IsNext {E = Unit {0}} before.dialogue (Ok (Some taken)) after.dialogue
-        → AreSteps before (Received (concat receives.pieces) ∷ Took (reply_to taken) ∷ []) after }
+        → AreClientSteps before
+        (Received (concat receives.pieces) ∷ Took (reply_to taken) ∷ []) after }
     ensures read_none { (before after : RustClient) (input left : InputState)
         (receives : Receives before.replies input (Ok None) after.replies left)
         → IsNext {E = ReceiveError} before.dialogue (Ok None) after.dialogue
-        → AreSteps before (Received (concat receives.pieces) ∷ []) after }
+        → AreClientSteps before (Received (concat receives.pieces) ∷ []) after }
     ensures read_failed { (before after : RustClient) (error : ReceiveError)
         (input left : InputState)
         (receives : Receives before.replies input (Err error) after.replies left)
         → IsNext before.dialogue (Err error) after.dialogue
-        → AreSteps before (Received (concat receives.pieces) ∷ []) after }
+        → AreClientSteps before (Received (concat receives.pieces) ∷ []) after }
     ensures in_turn { (first later : List ClientStep) (before middle after : RustClient)
-        → AreSteps before first middle → AreSteps middle later after
-        → AreSteps before (first ++ later) after }
+        → AreClientSteps before first middle → AreClientSteps middle later after
+        → AreClientSteps before (first ++ later) after }
 {}
 
 /// Whatever a client sends, and however the server's bytes are split: of the replies that it takes,
@@ -66,23 +67,23 @@ pub fn reads_are_steps()
 /// on, some preliminary ones and then a final one each (RFC 959, sections 4.2 and 5.4).
 pub fn replies_are_exchanges()
     ensures exchanges { (limit : Option ℕ) (steps : List ClientStep) (client : RustClient)
-        → AreSteps (new_client limit) steps client
+        → AreClientSteps (new_client limit) steps client
         → AreExchanges Greeting (replies_owed steps) }
     // No command has a reply before it was sent,
     ensures sent_before { (limit : Option ℕ) (before later : List ClientStep) (place : ℕ)
         (reply : ℕ × List Bytes) (client : RustClient)
-        → AreSteps (new_client limit)
+        → AreClientSteps (new_client limit)
         (before ++ Took (record { to = Command place; reply = reply }) ∷ later) client
         → place < length (lines_sent before) }
     // and a reply is to nothing only where the greeting and each command have their final one.
     ensures unasked { (limit : Option ℕ) (before later : List ClientStep)
         (reply : ℕ × List Bytes) (client : RustClient)
-        → AreSteps (new_client limit)
+        → AreClientSteps (new_client limit)
         (before ++ Took (record { to = Nothing; reply = reply }) ∷ later) client
         → suc (length (lines_sent before)) ≤ length (filter is_final (replies_owed before)) }
     // The replies are cut from what was received as those of a decoder are.
     ensures taken { (limit : Option ℕ) (steps : List ClientStep) (client : RustClient)
-        → AreSteps (new_client limit) steps client
+        → AreClientSteps (new_client limit) steps client
         → AreTakingSteps TakesReply [] (decoder_steps steps) client.replies.bytes }
 {}
 
@@ -90,7 +91,7 @@ pub fn replies_are_exchanges()
 /// which asks for TLS (RFC 4217, section 4): `tls_agreed` asks for this, and for no pending byte.
 pub fn tls_begins_after_234()
     ensures { (limit : Option ℕ) (steps : List ClientStep) (client : RustClient)
-        → AreSteps (new_client limit) steps client
+        → AreClientSteps (new_client limit) steps client
         → IsTrue client.dialogue.agreed → commands_owed client.dialogue ≡ 0
         → EndsInAgreement steps }
 {}
@@ -99,17 +100,18 @@ pub fn tls_begins_after_234()
 /// each line that it sends and the code of each reply that it finds.
 pub fn dialogues_are_exchanges()
     ensures exchanges { (steps : List ClientStep) (dialogue : RustDialogue)
-        → AreDialogueSteps at_start steps dialogue → AreExchanges Greeting (replies_owed steps) }
+        → AreDialogueSteps new_dialogue steps dialogue → AreExchanges Greeting
+        (replies_owed steps) }
     ensures sent_before { (before later : List ClientStep) (place : ℕ) (reply : ℕ × List Bytes)
-        (dialogue : RustDialogue) → AreDialogueSteps at_start
+        (dialogue : RustDialogue) → AreDialogueSteps new_dialogue
         (before ++ Took (record { to = Command place; reply = reply }) ∷ later) dialogue
         → place < length (lines_sent before) }
     ensures unasked { (before later : List ClientStep) (reply : ℕ × List Bytes)
-        (dialogue : RustDialogue) → AreDialogueSteps at_start
+        (dialogue : RustDialogue) → AreDialogueSteps new_dialogue
         (before ++ Took (record { to = Nothing; reply = reply }) ∷ later) dialogue
         → suc (length (lines_sent before)) ≤ length (filter is_final (replies_owed before)) }
     ensures agreed { (steps : List ClientStep) (dialogue : RustDialogue)
-        → AreDialogueSteps at_start steps dialogue → IsTrue dialogue.agreed
+        → AreDialogueSteps new_dialogue steps dialogue → IsTrue dialogue.agreed
         → commands_owed dialogue ≡ 0 → EndsInAgreement steps }
 {}
 
@@ -119,11 +121,11 @@ pub fn dialogues_are_exchanges()
 /// it.
 pub fn answers_are_exchanges()
     ensures exchanges { (steps : List ForwardingStep) (dialogue : RustDialogue)
-        → AreForwardingSteps at_start steps dialogue
+        → AreForwardingSteps new_dialogue steps dialogue
         → AreExchanges Greeting (replies_given 0 0 steps) }
     // Where the server owes none, each line has its final reply, and the greeting is complete.
     ensures complete { (steps : List ForwardingStep) (dialogue : RustDialogue)
-        → AreForwardingSteps at_start steps dialogue
+        → AreForwardingSteps new_dialogue steps dialogue
         → IsGreeted dialogue.answered → commands_owed dialogue ≡ 0
         → length (filter is_final (replies_given 0 0 steps))
         ≡ suc (length (filter is_line steps)) }

@@ -13,7 +13,7 @@ ghost use Rattle.unftp_control_defs.specs.ReplyLimit.{IsTooLongReply, within_lim
 ghost use Rattle.unftp_control_defs.specs.ReplyReader.{FrontReply, IsMalformed, IsPartial};
 ghost use Rattle.unftp_control_read.specs.ReplyDecoding.{IsReturned, TakesNextReply, held_after, pushed};
 ghost use Rattle.unftp_control_read.specs.Receiving.{Receives};
-ghost use Rattle.unftp_control_client.specs.Dialogue.{after_line, commands_owed};
+ghost use Rattle.unftp_control_client.specs.Dialogue.{after_command, commands_owed};
 ghost use Rattle.unftp_control_client.specs.Exchange.{IsNext, IsOtherError, MayBeginTls, new_client, only_reply};
 ghost use Rattle.unftp_control_defs.specs.Room.{LacksRoom};
 
@@ -75,7 +75,7 @@ impl Client {
     pub fn send(&mut self, command: &Command, out: &mut Vec<u8>) -> Result<u64, SendError>
         ensures place { IfOk result (λ place. place ≡ self.old.dialogue.sent) }
         ensures ok { OnOk result (self.new ≡ record self.old {
-          dialogue = after_line (canonical_line (command_of command.now)) self.old.dialogue;
+          dialogue = after_command (canonical_line (command_of command.now)) self.old.dialogue;
         }) }
         ensures out { OnOk result
             (out.new.items ≡ out.old.items ++ canonical_line (command_of command.now)) }
@@ -103,7 +103,7 @@ impl Client {
     pub fn send_line(&mut self, line: &[u8], out: &mut Vec<u8>) -> Result<u64, SendError>
         ensures place { IfOk result (λ place. place ≡ self.old.dialogue.sent) }
         ensures ok { OnOk result
-            (self.new ≡ record self.old { dialogue = after_line line.now self.old.dialogue }) }
+            (self.new ≡ record self.old { dialogue = after_command line.now self.old.dialogue }) }
         ensures out { OnOk result (out.new.items ≡ out.old.items ++ line.now) }
         ensures err { OnErr result (self.new ≡ self.old) }
         ensures out_err { OnErr result (out.new.items ≡ out.old.items) }
@@ -125,7 +125,7 @@ impl Client {
         requires { length ≤ vec_len out.old }
         ensures place { IfOk result (λ place. place ≡ self.old.dialogue.sent) }
         ensures ok { OnOk result (self.new ≡ record self.old {
-          dialogue = after_line (drop length out.old.items) self.old.dialogue;
+          dialogue = after_command (drop length out.old.items) self.old.dialogue;
         }) }
         ensures out { OnOk result (out.new.items ≡ out.old.items) }
         ensures err { OnErr result (self.new ≡ self.old) }

@@ -5,7 +5,7 @@ use Rattle.std.specs.List.{list_all}
 use Rattle.std.proofs.lemmas.Bool.{and_parts, cases_eq, false_from_ne_true}
 use lib.Pointwise.{bytes_decides}
 use Rattle.unftp_control_defs.specs.Bytes.{Bytes, CR, Lacks}
-use Rattle.unftp_control_defs.specs.FtpCommand.{FtpCommand, Answer, InvalidCommand}
+use Rattle.unftp_control_defs.specs.FtpCommand.{FtpCommand, Outcome, InvalidCommand}
 use Rattle.unftp_control_defs.specs.Rules.{chosen}
 use Rattle.unftp_control_defs.proofs.LackLemmas.{lacks, Lacks-test}
 use Rattle.unftp_control_message.specs.SentValues.{unescaped, after_nul}
@@ -21,7 +21,7 @@ first_return (b ∷ bytes) = ⊎_elim
     (λ p. inr (b ∷ p.0, p.1, (other, p.2), ap (λ t. b ∷ t) p.3)) (first_return bytes))
     (cases_eq b CR)
 
-pub same_answer_unescaped : (answer : Bytes → Answer)
+pub same_answer_unescaped : (answer : Bytes → Outcome)
     → ((front more : Bytes) → answer (front ++ CR ∷ more) ≡ Err InvalidCommand)
     → (sent : Bytes) → answer (unescaped sent) ≡ answer sent
 same_answer_unescaped answer refused sent = ⊎_elim

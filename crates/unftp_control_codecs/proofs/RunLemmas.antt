@@ -8,7 +8,7 @@ use Rattle.unftp_control_defs.specs.Bytes.{Bytes, NUL, LF, CR, crlf}
 use Rattle.unftp_control_defs.specs.ComputedValue.{After, Fresh, Plain, byte_then, later_value, value_of}
 use Rattle.unftp_control_message.specs.SentValues.{begins_with_cr_nul, cr_nul_count, unescaped}
 use Rattle.unftp_control_message.proofs.SentLemmas.{cr_nul_front, lacks_before, unescaped_front, unescaped_lacking}
-use Rattle.unftp_control_codecs.specs.Values.{stops, begins_with_line_end, IsFirstLen, IsLaterLen, IsPlainEnd, IsRunEnd, NoStop, Resumes}
+use Rattle.unftp_control_codecs.specs.Values.{ends_run, begins_with_line_end, IsFirstLen, IsLaterLen, IsPlainEnd, IsRunEnd, NoStop, Resumes}
 
 option_nil : (o : Option Bytes) → o ≡ option_map (λ w. [] ++ w) o
 option_nil None = refl
@@ -26,19 +26,19 @@ skip bytes zero h none = option_nil (later_value Plain bytes)
 skip [] (suc n) h none = absurd (omega arith)
 skip (b ∷ bytes) (suc n) h none =
     let on = or_parts (b == CR) (b == LF)
-    (false_from_ne_true (stops b) (none 0 (omega arith) (omega arith))) in
+    (false_from_ne_true (ends_run b) (none 0 (omega arith) (omega arith))) in
     let more = skip bytes n (omega arith) (λ k _ lt. none (suc k) (omega arith) (omega arith)) in
     rw (on.0, on.1) (ap (byte_then b) more
     ∙ option_joined (b ∷ []) (take n bytes) (later_value Plain (drop n bytes)))
 
 -- a run that ends at the first byte that stops one
 pub run_end : (bytes : Bytes) (n : ℕ) → n ≤ length bytes → NoStop bytes 0 n
-    → (n < length bytes → stops (get_or bytes n 0) ≡ true) → IsPlainEnd bytes n
+    → (n < length bytes → ends_run (get_or bytes n 0) ≡ true) → IsPlainEnd bytes n
 run_end bytes n within none stop = record {
   within = within;
   goes_on = skip bytes n within none;
   stop = stop;
-  no_return = lacks_before stops refl bytes n within none;
+  no_return = lacks_before ends_run refl bytes n within none;
 }
 
 -- a value with no CR and no LF, and its line end
@@ -47,7 +47,7 @@ later_value-usual : (fresh : Bool) (value : Bytes) → NoStop value 0 (length va
 later_value-usual fresh [] none = refl
 later_value-usual fresh (b ∷ value) none =
     let on = or_parts (b == CR) (b == LF)
-    (false_from_ne_true (stops b) (none 0 (omega arith) (omega arith))) in
+    (false_from_ne_true (ends_run b) (none 0 (omega arith) (omega arith))) in
     rw (on.0, on.1, and-false (not fresh)) (ap (byte_then b) (later_value-usual false value
     (λ k _ lt. none (suc k) (omega arith) (omega arith))))
 
@@ -56,13 +56,13 @@ pub value_of-usual : (value : Bytes) → NoStop value 0 (length value)
 value_of-usual [] none = refl
 value_of-usual (a ∷ []) none =
     let on = or_parts (a == CR) (a == LF)
-    (false_from_ne_true (stops a) (none 0 (omega arith) (omega arith))) in
+    (false_from_ne_true (ends_run a) (none 0 (omega arith) (omega arith))) in
     rw (on.0, on.1) refl
 value_of-usual (a ∷ b ∷ value) none =
     let on = or_parts (a == CR) (a == LF)
-    (false_from_ne_true (stops a) (none 0 (omega arith) (omega arith))) in
+    (false_from_ne_true (ends_run a) (none 0 (omega arith) (omega arith))) in
     let next = or_parts (b == CR) (b == LF)
-    (false_from_ne_true (stops b) (none 1 (omega arith) (omega arith))) in
+    (false_from_ne_true (ends_run b) (none 1 (omega arith) (omega arith))) in
     rw (on.0, on.1, next.1) (ap (byte_then a) (later_value-usual true (b ∷ value)
     (λ k _ lt. none (suc k) (omega arith) (omega arith))))
 
@@ -79,7 +79,7 @@ ends_at_lf : (rest : Bytes) → Ends (LF ∷ rest)
 ends_at_lf [] = refl
 ends_at_lf (b ∷ rest) = refl
 
-ends : (rest : Bytes) → (0 < length rest → stops (get_or rest 0 0) ≡ true) → Ends rest
+ends : (rest : Bytes) → (0 < length rest → ends_run (get_or rest 0 0) ≡ true) → Ends rest
 ends [] stop = refl
 ends (a ∷ rest) stop = ⊎_elim
     (λ t. subst (λ b. Ends (b ∷ rest)) (sym (eqb-true a CR t)) (ends_at_cr rest))
@@ -90,9 +90,9 @@ module _ (bytes : Bytes) (n : ℕ) (run : IsRunEnd Fresh bytes n) where
   abbrev rest : Bytes
   rest = drop n bytes
 
-  stop : 0 < length rest → stops (get_or rest 0 0) ≡ true
+  stop : 0 < length rest → ends_run (get_or rest 0 0) ≡ true
   stop some = let k : n + 0 ≡ n = omega arith in
-      ap stops (get_or-drop n bytes 0 0 ∙ ap (λ k. get_or bytes k 0) k)
+      ap ends_run (get_or-drop n bytes 0 0 ∙ ap (λ k. get_or bytes k 0) k)
       ∙ run.stop (omega (arith, length-drop n bytes, some))
 
   goes_on : later_value Fresh bytes ≡ option_map (λ w. take n bytes ++ w)

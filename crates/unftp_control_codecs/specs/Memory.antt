@@ -1,13 +1,13 @@
 -- Which lines memory may be taken for.
 use Rattle.std.specs.Prelude.{◌≡◌, ⊤, ◌<◌, Result, Ok, Err}
 use Rattle.unftp_control_defs.specs.Bytes.{Bytes}
-use Rattle.unftp_control_defs.specs.FtpCommand.{Answer}
+use Rattle.unftp_control_defs.specs.FtpCommand.{Outcome}
 use Rattle.unftp_control_defs.specs.Said.{IsSaid}
 use Rattle.unftp_control_defs.specs.declared.verb.Verb.{Verb}
 use Rattle.unftp_control_defs.specs.Outcome.{outcome}
 use Rattle.unftp_control_codecs.specs.ParseAnswer.{Refuses}
 use Rattle.unftp_control_message.specs.CommandMeaning.{command_of}
-use Rattle.unftp_control_message.specs.PartsMeaning.{IsBorrowed, given, held_len, said_of}
+use Rattle.unftp_control_message.specs.PartsMeaning.{IsBorrowed, said_value, held_len, said_of}
 use Rattle.unftp_control_message.specs.declared.Command.{Command}
 use Rattle.unftp_control_message.specs.declared.parts.Parts.{Parts}
 use Rattle.unftp_control_message.specs.declared.parts.Value.{Value}
@@ -15,7 +15,7 @@ use Rattle.unftp_control_message.specs.declared.reply.error.parse_error.ParseErr
 use Rattle.unftp_control_message.specs.declared.reply.error.parse_error.ParseErrorKind.TheVariants as kind
 
 -- The answer is a command that holds bytes. No refusal takes memory.
-abbrev pub AnswerMayTakeMemory : Answer → Type 0
+abbrev pub AnswerMayTakeMemory : Outcome → Type 0
 AnswerMayTakeMemory (Ok command) = 0 < held_len command
 AnswerMayTakeMemory (Err refusal) = ⊥
 
@@ -35,25 +35,25 @@ OnOutOfMemory (Ok x) P = ⊤
 OnOutOfMemory (Err error) P = IfOutOfMemory error P
 
 -- A part of the parser returns this answer, and runs out of memory only where it may take some.
-abbrev pub FailsWith : Answer → ParseErrorKind → Type 0
+abbrev pub FailsWith : Outcome → ParseErrorKind → Type 0
 FailsWith answer kind.OutOfMemory = AnswerMayTakeMemory answer
 FailsWith answer error = Refuses answer error
 
-abbrev pub ParsesTo : Answer → Result Command ParseErrorKind → Type 0
+abbrev pub ParsesTo : Outcome → Result Command ParseErrorKind → Type 0
 ParsesTo answer (Ok command) = answer ≡ Ok (command_of command)
 ParsesTo answer (Err error) = FailsWith answer error
 
 -- A part of the parser refuses what this answer refuses, and takes no memory.
-abbrev pub IsRefusal : Answer → ParseErrorKind → Type 0
+abbrev pub IsRefusal : Outcome → ParseErrorKind → Type 0
 IsRefusal answer kind.OutOfMemory = ⊥
 IsRefusal answer error = Refuses answer error
 
 -- It reads a value for this verb and name, or parts, which it borrows where it can.
-abbrev pub ReadsTo : Answer → Verb → Bytes → Result Value ParseErrorKind → Type 0
+abbrev pub ReadsTo : Outcome → Verb → Bytes → Result Value ParseErrorKind → Type 0
 ReadsTo answer verb name (Ok value) =
-    IsSaid answer (record { verb = verb; name = name; value = given value }) × IsBorrowed value
+    IsSaid answer (record { verb = verb; name = name; value = said_value value }) × IsBorrowed value
 ReadsTo answer verb name (Err error) = IsRefusal answer error
 
-abbrev pub PartsTo : Answer → Result Parts ParseErrorKind → Type 0
+abbrev pub PartsTo : Outcome → Result Parts ParseErrorKind → Type 0
 PartsTo answer (Ok parts) = IsSaid answer (said_of parts) × IsBorrowed parts.value
 PartsTo answer (Err error) = IsRefusal answer error

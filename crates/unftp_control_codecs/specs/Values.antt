@@ -26,19 +26,19 @@ Resumes bytes n = (later : Option ℕ) → IsLaterLen (drop n bytes) later
     → IsFirstLen bytes (option_map (λ m. n + m) later)
 
 -- what ends a run of bytes that are written as they are
-abbrev pub stops : ℕ → Bool
-stops b = (b == CR) || (b == LF)
+abbrev pub ends_run : ℕ → Bool
+ends_run b = (b == CR) || (b == LF)
 
 -- None of the bytes from i up to j ends a run.
 abbrev pub NoStop : Bytes → ℕ → ℕ → Type 0
-NoStop bytes i j = (k : ℕ) → i ≤ k → k < j → ¬ (stops (slice_index bytes k) ≡ true)
+NoStop bytes i j = (k : ℕ) → i ≤ k → k < j → ¬ (ends_run (slice_index bytes k) ≡ true)
 
 -- So many bytes are written as they are, and then there is nothing more or one that ends the run.
 pub record IsRunEnd (context : Context) (bytes : Bytes) (n : ℕ) : Type 0 where
   pub within : n ≤ length bytes
   pub goes_on : later_value context bytes
       ≡ option_map (λ w. take n bytes ++ w) (later_value Plain (drop n bytes))
-  pub stop : n < length bytes → stops (slice_index bytes n) ≡ true
+  pub stop : n < length bytes → ends_run (slice_index bytes n) ≡ true
   pub no_return : Lacks CR (take n bytes)
 
 abbrev pub IsPlainEnd : Bytes → ℕ → Type 0

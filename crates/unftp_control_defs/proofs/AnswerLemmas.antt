@@ -11,7 +11,7 @@ use Rattle.std.proofs.lemmas.Bool.{ltb-true, and_parts}
 use Rattle.unftp_control_defs.specs.Bytes.{Bytes, LF, Lacks}
 use Rattle.unftp_control_defs.specs.Paths.{path_of}
 use Rattle.unftp_control_defs.specs.Verbs.{upper}
-use Rattle.unftp_control_defs.specs.FtpCommand.{FtpCommand, Rest, Answer, Refusal, InvalidCommand, InvalidUtf8, Value, Nothing, Raw, Text, Chosen, Number, by_named_text, by_nothing, by_number, by_optional_raw, by_optional_text, by_raw, by_text, command_by, maybe_raw, maybe_text, unless_empty}
+use Rattle.unftp_control_defs.specs.FtpCommand.{FtpCommand, Rest, Outcome, Refusal, InvalidCommand, InvalidUtf8, Value, Nothing, Raw, Text, Chosen, Number, by_named_text, by_nothing, by_number, by_optional_raw, by_optional_text, by_raw, by_text, command_by, maybe_raw, maybe_text, unless_empty}
 use Rattle.unftp_control_defs.specs.Said.{HasTypedFields, IsMaybeUtf8, IsTyped}
 use Rattle.unftp_control_defs.specs.Rules.{auth, buffer_sizes, chosen, mechanisms, modes, offset, optional_text, options, protections, structures, taken, typed_answer}
 use Rattle.unftp_control_defs.specs.declared.verb.Kind.{Kind}
@@ -26,21 +26,21 @@ abbrev pub IsSound : FtpCommand → Type 0
 IsSound command = HasLine command × HasTypedFields command
 
 -- whatever command this makes of a value without LF is sound
-abbrev pub Gives : (Bytes → Answer) → Type 0
+abbrev pub Gives : (Bytes → Outcome) → Type 0
 Gives answer = (v : Bytes) (command : FtpCommand) → Lacks LF v → answer v ≡ Ok command
     → IsSound command
 
-pub sound : (made command : FtpCommand) → IsSound made → ◌≡◌ {A = Answer} (Ok made) (Ok command)
+pub sound : (made command : FtpCommand) → IsSound made → ◌≡◌ {A = Outcome} (Ok made) (Ok command)
     → IsSound command
 sound made command is_sound e = let same : made ≡ command = cc in subst IsSound same is_sound
 
 -- a test whose other side is a refusal
-pub passed : (test : Bool) (answer : Answer) (refusal : Refusal) (command : FtpCommand)
+pub passed : (test : Bool) (answer : Outcome) (refusal : Refusal) (command : FtpCommand)
     → cond test answer (Err refusal) ≡ Ok command → (test ≡ true) × (answer ≡ Ok command)
 passed true answer refusal command e = (refl, e)
 passed false answer refusal command e = cc
 
-pub not_refused : (test : Bool) {answer : Answer} (refusal : Refusal) {command : FtpCommand}
+pub not_refused : (test : Bool) {answer : Outcome} (refusal : Refusal) {command : FtpCommand}
     → cond test (Err refusal) answer ≡ Ok command → answer ≡ Ok command
 not_refused true refusal e = cc
 not_refused false refusal e = e
@@ -54,7 +54,7 @@ IsTyped-raw None = tt
 IsTyped-raw (Some bytes) = tt
 
 -- whatever command this makes of what is read is sound
-abbrev pub Makes : (Value → Answer) → Type 0
+abbrev pub Makes : (Value → Outcome) → Type 0
 Makes makes = (value : Value) (command : FtpCommand) → IsRead value → makes value ≡ Ok command
     → IsSound command
 
@@ -113,7 +113,8 @@ named_text_makes made name each (Chosen choice) command is e = cc
 named_text_makes made name each (Number number) command is e = cc
 
 -- one of a few commands
-chosen_step : (test : Bool) (made : FtpCommand) {meant : FtpCommand} {other : Answer} → IsSound made
+chosen_step : (test : Bool) (made : FtpCommand) {meant : FtpCommand} {other : Outcome}
+    → IsSound made
     → (other ≡ Ok meant → IsSound meant) → cond test (Ok made) other ≡ Ok meant → IsSound meant
 chosen_step true made {meant} is_sound more e = sound made meant is_sound e
 chosen_step false made is_sound more e = more e
@@ -183,7 +184,8 @@ typed_gives verbs.Opts = word_gives options ((tt, tt), ((tt, tt), ((tt, tt), ((t
 typed_gives verbs.Pbsz = word_gives buffer_sizes ((tt, tt), tt)
 typed_gives verbs.Auth = auth_gives
 typed_gives verbs.Rest = λ v meant h e. offset_sound (utf8_lossy v) meant e
-typed_gives verb = λ v meant h e. let refused : ◌≡◌ {A = Answer} (Err InvalidCommand) (Ok meant) = e in cc
+typed_gives verb = λ v meant h e. let refused : ◌≡◌ {A = Outcome} (Err InvalidCommand)
+    (Ok meant) = e in cc
 
 -- what a verb of each kind takes
 pub taken_gives : (kind : Kind) (verb : Verb) (name : Bytes) → Makes (command_by verb name)
@@ -197,7 +199,7 @@ taken_gives kinds.Text verb name makes v command h e =
     (not_refused (length v == 0) InvalidCommand e)
   where
     some : v ≢ []
-    some is = let refused : ◌≡◌ {A = Answer} (Err InvalidCommand) (Ok command) = rw is at e in cc
+    some is = let refused : ◌≡◌ {A = Outcome} (Err InvalidCommand) (Ok command) = rw is at e in cc
 taken_gives kinds.OptionalText verb name makes v command h e =
     makes (optional_text v) command (IsRead-optional_text v h) e
 taken_gives kinds.Listing verb name makes v command h e =

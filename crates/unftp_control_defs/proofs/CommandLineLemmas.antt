@@ -7,7 +7,7 @@ use Rattle.unftp_control_defs.specs.Bytes.{Bytes}
 use Rattle.unftp_control_defs.specs.Lines.{IsLine}
 use Rattle.unftp_control_defs.specs.Verbs.{verb_of, parameter_of, upper}
 use Rattle.unftp_control_defs.specs.ComputedValue.{value_of}
-use Rattle.unftp_control_defs.specs.FtpCommand.{FtpCommand, Answer, InvalidUtf8, Nothing, kind, verbs}
+use Rattle.unftp_control_defs.specs.FtpCommand.{FtpCommand, Outcome, InvalidUtf8, Nothing, kind, verbs}
 use Rattle.unftp_control_defs.specs.Said.{HasTypedFields}
 use Rattle.unftp_control_defs.specs.Rules.{row_of, subcommand_answer, taken}
 use Rattle.unftp_control_defs.specs.declared.verb.Kind.{Kind}
@@ -36,7 +36,7 @@ name_gives name is_name is_text = by_test (bytes_eq name (codes "MD5")) refl
       is_text,
     ))
 
-value_gives : (answer : Bytes → Answer) → Gives answer → (parameter : Bytes) → EndsAtLf parameter
+value_gives : (answer : Bytes → Outcome) → Gives answer → (parameter : Bytes) → EndsAtLf parameter
     → {command : FtpCommand} → value_answer answer (value_of parameter) ≡ Ok command
     → IsSound command
 value_gives answer gives parameter ends {command} e = by_option (value_of parameter) refl e
@@ -57,7 +57,7 @@ site_gives : (parameter : Bytes) → EndsAtLf parameter → (command : FtpComman
     → site_answer parameter ≡ Ok command → IsSound command
 site_gives parameter ends command e =
     let name : Bytes = upper (verb_of parameter) in
-    let answer : Bytes → Answer = subcommand_answer name in
+    let answer : Bytes → Outcome = subcommand_answer name in
     let p = passed (is_utf8 (verb_of parameter))
     (value_answer answer (value_of (parameter_of parameter))) InvalidUtf8 command e in
     value_gives answer (name_gives name (uppercased_name parameter) (uppercased_utf8 parameter p.0))

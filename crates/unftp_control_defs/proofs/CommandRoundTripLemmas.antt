@@ -6,7 +6,7 @@ use Rattle.std.proofs.lemmas.Str.{utf8_lossy-IsUtf8}
 use Rattle.unftp_control_defs.specs.Bytes.{Bytes, LF, crlf, Lacks}
 use Rattle.unftp_control_defs.specs.Values.{escaped}
 use Rattle.unftp_control_defs.specs.ComputedValue.{value_of}
-use Rattle.unftp_control_defs.specs.FtpCommand.{FtpCommand, Answer, Raw, Text, command_by, maybe_raw, maybe_text, unless_empty}
+use Rattle.unftp_control_defs.specs.FtpCommand.{FtpCommand, Outcome, Raw, Text, command_by, maybe_raw, maybe_text, unless_empty}
 use Rattle.unftp_control_defs.specs.Rules.{optional_text, taken}
 use Rattle.unftp_control_defs.specs.declared.verb.Kind.TheVariants as kinds
 use Rattle.unftp_control_defs.specs.declared.verb.Verb.{Verb}
@@ -27,7 +27,7 @@ optional_text-IsUtf8 [] utf8 = refl
 optional_text-IsUtf8 (b ∷ text) utf8 = ap Text (utf8_lossy-IsUtf8 (b ∷ text) utf8)
 
 -- by what takes a value
-pub by_escaped : (answer : Bytes → Answer) (text : Bytes) → Lacks LF text
+pub by_escaped : (answer : Bytes → Outcome) (text : Bytes) → Lacks LF text
     → value_answer answer (value_of (escaped text ++ crlf)) ≡ answer text
 by_escaped answer text h = ap (value_answer answer) (value_of-escaped text h)
 

@@ -4,7 +4,7 @@ use Rattle.std.specs.List.{AllByRecursion, onto_first}
 use Rattle.unftp_control_defs.specs.Bytes.{Bytes}
 use Rattle.unftp_control_defs.specs.Events.{FtpEvent}
 use Rattle.unftp_control_defs.specs.FtpReply.{FtpReply, Nothing, CodeAndMsg, MultiLine, lines_as_read, reply_as_read}
-use Rattle.unftp_control_defs.specs.Run.{SessionLaw, after, replies, said, turn, replies_by_event}
+use Rattle.unftp_control_defs.specs.Run.{SessionLaw, after, replies, turn_replies, turn, replies_by_event}
 use Rattle.unftp_control_defs.specs.Turns.{GivesExchanges, IsExchangeBy, SaysOnly, cut_after_final, cut_by, cut_reads, is_preliminary_read, is_preliminary_reply}
 
 module _ {A : Type 0} (preliminary : A → Bool) where
@@ -27,9 +27,10 @@ module _ {S : Type 0} (law : SessionLaw S) where
       → cut_after_final (replies law s events) ≡ replies_by_event law s events
   cut-replies each s [] = refl
   cut-replies each s (event ∷ events) =
-      cut-exchange is_preliminary_reply (said (turn law s event))
+      cut-exchange is_preliminary_reply (turn_replies (turn law s event))
       (replies law (after law s event) events) (each s event)
-      ∙ ap (λ later. said (turn law s event) ∷ later) (cut-replies each (after law s event) events)
+      ∙ ap (λ later. turn_replies (turn law s event) ∷ later)
+      (cut-replies each (after law s event) events)
 
   pub length-replies_by_event : (s : S) (events : List FtpEvent)
       → length (replies_by_event law s events) ≡ length events
@@ -43,7 +44,7 @@ module _ {S : Type 0} (law : SessionLaw S) where
       → AllByRecursion P (replies law s events)
   replies-all P each s [] = tt
   replies-all P each s (event ∷ events) =
-      all-append P (said (turn law s event)) (replies law (after law s event) events)
+      all-append P (turn_replies (turn law s event)) (replies law (after law s event) events)
       (each s event) (replies-all P each (after law s event) events)
 
 -- ---- as they are read

@@ -9,7 +9,7 @@ use Rattle.unftp_control_defs.specs.Lines.{IsLine}
 use Rattle.unftp_control_defs.specs.Verbs.{is_separator, verb_of, parameter_of, upper}
 use Rattle.unftp_control_defs.specs.Values.{ReadsLater, ends_crlf, ends_lf, cr_nul, byte, Reads, nothing, ended, ended_crlf, one_byte, first_cr_nul, first_byte}
 use Rattle.unftp_control_defs.specs.ComputedValue.{value_of}
-use Rattle.unftp_control_defs.specs.FtpCommand.{Answer, FtpCommand, InvalidUtf8, kind, verbs}
+use Rattle.unftp_control_defs.specs.FtpCommand.{Outcome, FtpCommand, InvalidUtf8, kind, verbs}
 use Rattle.unftp_control_defs.specs.Rules.{row_of, subcommand_answer, taken}
 use Rattle.unftp_control_defs.specs.declared.verb.Kind.{Kind}
 use Rattle.unftp_control_defs.specs.declared.verb.Kind.TheVariants as kinds
@@ -215,7 +215,7 @@ made_cut_again : (text : Bytes) → (verb_of (made_parameter text) ≡ verb_of t
 made_cut_again [] = (refl, refl)
 made_cut_again (b ∷ text) = ended_cut (b ∷ text)
 
-value_answer_kept : (answer : Bytes → Answer) (parameter : Bytes) {command : FtpCommand}
+value_answer_kept : (answer : Bytes → Outcome) (parameter : Bytes) {command : FtpCommand}
     → EndsAtLf parameter → value_answer answer (value_of parameter) ≡ Ok command
     → value_answer answer (value_of (before_end parameter ++ crlf)) ≡ Ok command
 value_answer_kept answer parameter {command} ends e = by_option (value_of parameter) refl e
@@ -231,7 +231,7 @@ site_kept : (parameter : Bytes) {command : FtpCommand} → EndsAtLf parameter
 site_kept parameter {command} ends e =
     let cut = cut-before_end parameter ends in
     let made = made_cut_again (before_end parameter) in
-    let answer : Bytes → Answer = subcommand_answer (upper (verb_of parameter)) in
+    let answer : Bytes → Outcome = subcommand_answer (upper (verb_of parameter)) in
     let read = passed (is_utf8 (verb_of parameter))
     (value_answer answer (value_of (parameter_of parameter))) InvalidUtf8 command e in
     rw (made.0 ∙ cut.0, made.1 ∙ ap (λ text. value_of (text ++ crlf)) cut.1, read.0)

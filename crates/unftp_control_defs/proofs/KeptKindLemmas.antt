@@ -8,8 +8,8 @@ use Rattle.unftp_control_defs.specs.Bytes.{Bytes}
 use Rattle.unftp_control_defs.specs.Verbs.{verb_of, parameter_of, upper}
 use Rattle.unftp_control_defs.specs.Paths.{path_of}
 use Rattle.unftp_control_defs.specs.ComputedValue.{value_of}
-use Rattle.unftp_control_defs.specs.FtpCommand.{Answer, FtpCommand, Refusal, InvalidCommand, InvalidUtf8, Rest, Nothing, Text, Said, Value, command_by, kind, maybe_text, said, unless_empty, verbs}
-use Rattle.unftp_control_defs.specs.Said.{KindSaysBack, SaysBack, Tells}
+use Rattle.unftp_control_defs.specs.FtpCommand.{Outcome, FtpCommand, Refusal, InvalidCommand, InvalidUtf8, Rest, Nothing, Text, Said, Value, command_by, kind, maybe_text, said, unless_empty, verbs}
+use Rattle.unftp_control_defs.specs.Said.{KindSaysBack, SaysBack, MeansCommand}
 use Rattle.unftp_control_defs.specs.Rules.{buffer_sizes, chosen, mechanisms, modes, optional_text, options, protections, row_of, structures, subcommand_answer, taken, typed_answer}
 use Rattle.unftp_control_defs.specs.Outcome.{outcome, parameter_answer, value_answer, word_answer}
 use Rattle.unftp_control_defs.specs.Forwarded.{keeps, keeps_parameter, kind_keeps}
@@ -21,21 +21,21 @@ use Rattle.unftp_control_defs.proofs.LossyLemmas.{kept-utf8_lossy}
 use Rattle.unftp_control_defs.proofs.SaidLemmas.{fits, other_fits, site_fits}
 
 -- what a line of the answer's command does
-abbrev KeepsAs : Bool → Answer → Type 0
+abbrev KeepsAs : Bool → Outcome → Type 0
 KeepsAs keeps (Ok command) = kind_keeps (kind (said command).verb) ≡ keeps
 KeepsAs keeps (Err refusal) = ⊤
 
-passed_keeps : (keeps test : Bool) (answer : Answer) (refusal : Refusal) → KeepsAs keeps answer
+passed_keeps : (keeps test : Bool) (answer : Outcome) (refusal : Refusal) → KeepsAs keeps answer
     → KeepsAs keeps (cond test answer (Err refusal))
 passed_keeps keeps true answer refusal h = h
 passed_keeps keeps false answer refusal h = tt
 
-not_refused_keeps : (keeps test : Bool) (answer : Answer) (refusal : Refusal)
+not_refused_keeps : (keeps test : Bool) (answer : Outcome) (refusal : Refusal)
     → KeepsAs keeps answer → KeepsAs keeps (cond test (Err refusal) answer)
 not_refused_keeps keeps true answer refusal h = tt
 not_refused_keeps keeps false answer refusal h = h
 
-tells_keeps : (answer : Answer) (parts : Said) → Tells answer parts
+tells_keeps : (answer : Outcome) (parts : Said) → MeansCommand answer parts
     → KeepsAs (kind_keeps (kind parts.verb)) answer
 tells_keeps (Ok command) parts tells = ap (λ said. kind_keeps (kind said.verb)) tells
 tells_keeps (Err refusal) parts tells = tt
@@ -98,7 +98,7 @@ module _ (verb : Verb) (name : Bytes) where
   taken_keeps kinds.Ignored same says v = tt
   taken_keeps kinds.Subcommand same says v = tt
 
-value_keeps : (keeps : Bool) (answer : Bytes → Answer) → ((v : Bytes) → KeepsAs keeps (answer v))
+value_keeps : (keeps : Bool) (answer : Bytes → Outcome) → ((v : Bytes) → KeepsAs keeps (answer v))
     → (value : Option Bytes) → KeepsAs keeps (value_answer answer value)
 value_keeps keeps answer each None = tt
 value_keeps keeps answer each (Some v) = each v

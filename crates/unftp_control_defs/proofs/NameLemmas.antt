@@ -8,7 +8,7 @@ use Rattle.unftp_control_defs.specs.Bytes.{Bytes, LF, CR, SP, crlf, Lacks}
 use Rattle.unftp_control_defs.specs.Verbs.{is_separator}
 use Rattle.unftp_control_defs.specs.Values.{escaped}
 use Rattle.unftp_control_defs.specs.ComputedValue.{value_of}
-use Rattle.unftp_control_defs.specs.FtpCommand.{FtpCommand, Site, Other, Answer, command_by, maybe_text, unless_empty, verbs}
+use Rattle.unftp_control_defs.specs.FtpCommand.{FtpCommand, Site, Other, Outcome, command_by, maybe_text, unless_empty, verbs}
 use Rattle.unftp_control_defs.specs.Rules.{row_of, taken}
 use Rattle.unftp_control_defs.specs.declared.verb.Kind.TheVariants as kinds
 use Rattle.unftp_control_defs.specs.declared.verb.Verb.{Verb}
@@ -20,7 +20,7 @@ use Rattle.unftp_control_defs.proofs.UpperLemmas.{upper-IsUpperCaseName, bare_na
 use Rattle.unftp_control_defs.proofs.CommandRoundTripLemmas.{optional_text_back}
 
 -- a name that takes any text after a separator
-name_back : (read : Bytes → Answer) (verb : Verb) (name : Bytes) (command : Bytes → FtpCommand)
+name_back : (read : Bytes → Outcome) (verb : Verb) (name : Bytes) (command : Bytes → FtpCommand)
     → ((text : Bytes) → command_by verb name (maybe_text (unless_empty text)) ≡ Ok (command text))
     → ((b : ℕ) (parameter : Bytes) → is_separator b ≡ true → read (name ++ b ∷ parameter)
     ≡ value_answer (taken kinds.OptionalText verb name) (value_of parameter))

@@ -11,7 +11,7 @@ use Rattle.unftp_control_defs.specs.Bytes.{Bytes, LF, Lacks}
 use Rattle.unftp_control_defs.specs.Events.{FtpEvent, event_for, events}
 use Rattle.unftp_control_defs.specs.FtpReply.{FtpReply, encoded}
 use Rattle.unftp_control_defs.specs.Lines.{IsLine, lines_of, incomplete_line}
-use Rattle.unftp_control_defs.specs.Run.{run_for, ends_for, after_lines, unread, after_end, SessionLaw, all_said, at_each, replies_by_event, replies_to, state_after, after, run_of, ends, replies, last_state, text_of}
+use Rattle.unftp_control_defs.specs.Run.{run_for, ends_for, after_lines, unread, after_end, SessionLaw, all_replies, at_each, replies_by_event, replies_to, state_after, after, run_of, ends, replies, last_state, text_of}
 use Rattle.unftp_control_defs.specs.Pieces.{replies_in_turn}
 use Rattle.unftp_control_defs.proofs.LineLemmas.{Lines-lines_of, lines_of-append, lines_of-incomplete, incomplete_line-append, incomplete_line-incomplete, line_first, events-append, events-incomplete}
 
@@ -31,7 +31,8 @@ at_each-append f law s (event ∷ events) more =
 pub replies-append : {S : Type 0} (law : SessionLaw S) (s : S) (events more : List FtpEvent) →
     replies law s (events ++ more) ≡ replies law s events ++ replies law (last_state law s events)
     more
-replies-append law s events more = ap all_said (at_each-append (replies_to law) law s events more)
+replies-append law s events more = ap all_replies
+    (at_each-append (replies_to law) law s events more)
     ∙ flat_map-append (λ turn. turn) (replies_by_event law s events) _
 
 pub text_of-append : {S : Type 0} (law : SessionLaw S) (s : S) (events more : List FtpEvent) →

@@ -3,7 +3,7 @@ use Rattle.std.specs.Prelude.{ℕ, Bool, true, false, nat_lt, if◌then◌else�
 use Rattle.unftp_control_defs.specs.Bytes.{Bytes}
 use Rattle.unftp_control_defs.specs.Lines.{lines_of}
 use Rattle.unftp_control_defs.specs.FtpCommand as line
-use Rattle.unftp_control_defs.specs.FtpCommand.{FtpCommand, Refusal, Answer}
+use Rattle.unftp_control_defs.specs.FtpCommand.{FtpCommand, Refusal, Outcome}
 use Rattle.unftp_control_defs.specs.Outcome.{outcome}
 
 -- the kinds of the control channel's errors
@@ -55,7 +55,7 @@ abbrev pub is_quit : FtpEvent → Bool
 is_quit (Command line.Quit) = true
 is_quit _ = false
 
-abbrev pub event_of : Answer → FtpEvent
+abbrev pub event_of : Outcome → FtpEvent
 event_of (Ok command) = Command command
 event_of (Err refusal) = Refused (refusal_fault refusal)
 

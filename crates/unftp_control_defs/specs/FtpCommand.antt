@@ -73,8 +73,8 @@ pub data Refusal : Type 0 where
   InvalidEol : Refusal
 
 -- what a line means
-abbrev pub Answer : Type 0
-Answer = Result FtpCommand Refusal
+abbrev pub Outcome : Type 0
+Outcome = Result FtpCommand Refusal
 
 -- The value of a command: bytes as they are, a text, one of a few, or a number.
 pub data Value : Type 0 where
@@ -98,7 +98,7 @@ maybe_text (Some text) = Text text
 
 -- The command of a name, which most verbs don't have, and of a value of the verb's kind.
 abbrev Makes : Type 0
-Makes = Bytes → Value → Answer
+Makes = Bytes → Value → Outcome
 
 abbrev pub by_nothing : FtpCommand → Makes
 by_nothing command name Nothing = Ok command
@@ -161,9 +161,9 @@ pub record Row : Type 0 where
   pub number : ℕ
   pub word : Bytes
   pub kind : Kind
-  pub command : Bytes → Value → Answer
+  pub command : Bytes → Value → Outcome
 
-abbrev entry : ℕ → Bytes → Kind → (Bytes → Value → Answer) → Row
+abbrev entry : ℕ → Bytes → Kind → (Bytes → Value → Outcome) → Row
 entry number word kind command =
     record { number = number; word = word; kind = kind; command = command }
 
@@ -222,7 +222,7 @@ word verb = (row verb).word
 abbrev pub kind : Verb → Kind
 kind verb = (row verb).kind
 
-abbrev pub command_by : Verb → Bytes → Value → Answer
+abbrev pub command_by : Verb → Bytes → Value → Outcome
 command_by verb = (row verb).command
 
 -- the words of a line that are verbs, in upper case

@@ -8,7 +8,7 @@ use Rattle.std.specs.Str.Parse.{without_leading_plus, digits_value}
 use Rattle.unftp_control_defs.specs.Bytes.{Bytes}
 use Rattle.unftp_control_defs.specs.Verbs.{upper}
 use Rattle.unftp_control_defs.specs.Paths.{path_of}
-use Rattle.unftp_control_defs.specs.FtpCommand.{FtpCommand, Stru, Mode, Opts, Auth, Pbsz, Prot, Rest, Answer, InvalidCommand, InvalidUtf8, Value, Nothing, Text, command_by, maybe_raw, maybe_text, unless_empty}
+use Rattle.unftp_control_defs.specs.FtpCommand.{FtpCommand, Stru, Mode, Opts, Auth, Pbsz, Prot, Rest, Outcome, InvalidCommand, InvalidUtf8, Value, Nothing, Text, command_by, maybe_raw, maybe_text, unless_empty}
 use Rattle.unftp_control_defs.specs.declared.parameters.AuthParam.TheVariants.{Ssl, Tls}
 use Rattle.unftp_control_defs.specs.declared.parameters.ModeParam.TheVariants.{Stream, Block, Compressed}
 use Rattle.unftp_control_defs.specs.declared.parameters.Opt.TheVariants.{Utf8}
@@ -24,7 +24,7 @@ abbrev pub row_of : {A : Type 0} → Bytes → List (Bytes × A) → Option A
 row_of name rows = option_map (λ row. row.1) (find (λ row. bytes_eq name row.0) rows)
 
 -- one of these values
-abbrev pub chosen : List (Bytes × FtpCommand) → Bytes → Answer
+abbrev pub chosen : List (Bytes × FtpCommand) → Bytes → Outcome
 chosen [] v = Err InvalidCommand
 chosen (row ∷ rows) v = if bytes_eq row.0 v then Ok row.1 else chosen rows v
 
@@ -49,20 +49,20 @@ abbrev pub mechanisms : List (Bytes × FtpCommand)
 mechanisms = (codes "TLS", Auth Tls) ∷ (codes "SSL", Auth Ssl) ∷ []
 
 -- the value of AUTH, at most three bytes of UTF-8, ignoring ASCII case (RFC 2228, section 3)
-abbrev pub auth : Bytes → Answer
+abbrev pub auth : Bytes → Outcome
 auth v = if nat_lt 3 (length v) then Err InvalidCommand
     else (if is_utf8 v then chosen mechanisms (upper v)
     else Err InvalidUtf8)
 
 -- the offset of REST, a decimal number below 2 ^ 64 after a plus or none (RFC 3659, section 5)
-abbrev pub offset : Bytes → Answer
+abbrev pub offset : Bytes → Outcome
 offset text = let digits = without_leading_plus text in
     if nat_lt 0 (length digits) && all_ascii_digits digits
     && nat_lt (digits_value 10 digits) (2 ^ 64)
     then Ok (Rest (digits_value 10 digits)) else Err InvalidCommand
 
 -- what the verbs with a value of their own type make of it
-abbrev pub typed_answer : Verb → Bytes → Answer
+abbrev pub typed_answer : Verb → Bytes → Outcome
 typed_answer verb.Stru v = chosen structures v
 typed_answer verb.Mode v = chosen modes v
 typed_answer verb.Prot v = chosen protections v
@@ -77,7 +77,7 @@ abbrev pub optional_text : Bytes → Value
 optional_text v = maybe_text (option_map utf8_lossy (unless_empty v))
 
 -- what a verb of this kind makes of a value
-abbrev pub taken : Kind → Verb → Bytes → Bytes → Answer
+abbrev pub taken : Kind → Verb → Bytes → Bytes → Outcome
 taken kinds.Alone verb name v =
     if length v == 0 then command_by verb name Nothing else Err InvalidCommand
 taken kinds.Raw verb name v = command_by verb name (maybe_raw (unless_empty v))
@@ -90,6 +90,6 @@ taken kinds.Typed verb name v = typed_answer verb v
 taken _ verb name v = Err InvalidCommand
 
 -- what a subcommand of SITE, in upper case, makes of the value after it
-abbrev pub subcommand_answer : Bytes → Bytes → Answer
+abbrev pub subcommand_answer : Bytes → Bytes → Outcome
 subcommand_answer name = if bytes_eq name (codes "MD5") then taken kinds.Text verb.Md5 []
     else taken kinds.OptionalText verb.Site name

@@ -42,9 +42,9 @@ abbrev pub turn : {S : Type 0} → SessionLaw S → S → FtpEvent → List (Ftp
 turn law s event = (law.says s event, law.next s event) ∷ law.more (law.next s event)
 
 -- the replies of a turn, and the state after them
-abbrev pub said : {S : Type 0} → List (FtpReply × S) → List FtpReply
-said [] = []
-said (step ∷ steps) = step.0 ∷ said steps
+abbrev pub turn_replies : {S : Type 0} → List (FtpReply × S) → List FtpReply
+turn_replies [] = []
+turn_replies (step ∷ steps) = step.0 ∷ turn_replies steps
 
 abbrev pub state_after : {S : Type 0} → S → List (FtpReply × S) → S
 state_after s [] = s
@@ -77,16 +77,16 @@ at_each f law s (event ∷ events) = f s event ∷ at_each f law (after law s ev
 
 -- the replies to an event, those to each of some, and all of these
 abbrev pub replies_to : {S : Type 0} → SessionLaw S → S → FtpEvent → List FtpReply
-replies_to law s event = said (turn law s event)
+replies_to law s event = turn_replies (turn law s event)
 
 abbrev pub replies_by_event : {S : Type 0} → SessionLaw S → S → List FtpEvent → List (List FtpReply)
 replies_by_event law s events = at_each (replies_to law) law s events
 
-abbrev pub all_said : List (List FtpReply) → List FtpReply
-all_said turns = flat_map (λ turn. turn) turns
+abbrev pub all_replies : List (List FtpReply) → List FtpReply
+all_replies turns = flat_map (λ turn. turn) turns
 
 abbrev pub replies : {S : Type 0} → SessionLaw S → S → List FtpEvent → List FtpReply
-replies law s events = all_said (replies_by_event law s events)
+replies law s events = all_replies (replies_by_event law s events)
 
 -- the state after the events
 abbrev pub last_state : {S : Type 0} → SessionLaw S → S → List FtpEvent → S

@@ -6,7 +6,7 @@ use Rattle.unftp_control_defs.specs.Bytes.{Bytes}
 use Rattle.unftp_control_defs.specs.declared.verb.Kind.{Kind}
 use Rattle.unftp_control_defs.specs.declared.verb.Kind.TheVariants as kinds
 use Rattle.unftp_control_defs.specs.declared.verb.Verb.{Verb}
-use Rattle.unftp_control_defs.specs.FtpCommand.{Answer, FtpCommand, List as Listing, Site, Other, Said, Value, Nothing, Raw, Text, Chosen, Number, command_by, maybe_raw, maybe_text, number, said, unless_empty, word}
+use Rattle.unftp_control_defs.specs.FtpCommand.{Outcome, FtpCommand, List as Listing, Site, Other, Said, Value, Nothing, Raw, Text, Chosen, Number, command_by, maybe_raw, maybe_text, number, said, unless_empty, word}
 use Rattle.unftp_control_defs.specs.declared.parameters.AuthParam.{AuthParam}
 use Rattle.unftp_control_defs.specs.declared.parameters.Choice.{Choice}
 use Rattle.unftp_control_defs.specs.declared.parameters.Choice.TheVariants as choices
@@ -92,16 +92,16 @@ HasTypedFields (Other name arguments) = IsUtf8 name × IsUtf8 arguments
 HasTypedFields command = IsTyped (said command).value
 
 -- the command of what is said; none where the verb takes no such value
-abbrev pub answer_of : Said → Answer
-answer_of parts = command_by parts.verb parts.name parts.value
+abbrev pub outcome_of : Said → Outcome
+outcome_of parts = command_by parts.verb parts.name parts.value
 
 -- The answer is a command of which this is said.
-abbrev pub Tells : Answer → Said → Type 0
-Tells (Ok command) parts = said command ≡ parts
-Tells (Err refusal) parts = ⊥
+abbrev pub MeansCommand : Outcome → Said → Type 0
+MeansCommand (Ok command) parts = said command ≡ parts
+MeansCommand (Err refusal) parts = ⊥
 
-abbrev pub IsSaid : Answer → Said → Type 0
-IsSaid answer parts = (answer ≡ answer_of parts) × Tells answer parts
+abbrev pub IsSaid : Outcome → Said → Type 0
+IsSaid answer parts = (answer ≡ outcome_of parts) × MeansCommand answer parts
 
 abbrev parts : Verb → Bytes → Value → Said
 parts verb name value = record { verb = verb; name = name; value = value }

@@ -4,10 +4,10 @@ use Rattle.std.specs.Prelude.{if◌then◌else◌}
 use Rattle.std.specs.List.{AllByRecursion, onto_first}
 use Rattle.unftp_control_defs.specs.Turns.{cut_reads, is_preliminary_read}
 use Rattle.unftp_control_defs.proofs.ExchangeLemmas.{all-append, cut-exchange}
-use Rattle.unftp_control_log.specs.Exchanges.{ArePreliminary, IsWhole, Read, complete_after, complete_exchanges, open_after, open_part}
+use Rattle.unftp_control_log.specs.Exchanges.{ArePreliminary, IsWholeExchange, Read, complete_after, complete_exchanges, open_after, open_part}
 
 pub ends : (before : List Read) (reply : Read) → ArePreliminary before
-    → is_preliminary_read reply ≡ false → IsWhole (before ++ reply ∷ [])
+    → is_preliminary_read reply ≡ false → IsWholeExchange (before ++ reply ∷ [])
 ends [] reply all final = final
 ends (first ∷ []) reply all final = (all.0, final)
 ends (first ∷ (next ∷ later)) reply all final = (all.0, ends (next ∷ later) reply all.1 final)
@@ -19,7 +19,7 @@ goes_on before reply all is =
 
 -- each has its final reply
 pub complete-whole : (replies before : List Read) → ArePreliminary before
-    → AllByRecursion IsWhole (complete_after before replies)
+    → AllByRecursion IsWholeExchange (complete_after before replies)
 complete-whole [] before all = tt
 complete-whole (reply ∷ replies) before all =
     by_test (is_preliminary_read reply) refl (complete-whole replies (before ++ reply ∷ []))
@@ -27,9 +27,9 @@ complete-whole (reply ∷ replies) before all =
   where
     by_test : (test : Bool) → is_preliminary_read reply ≡ test
         → (ArePreliminary (before ++ reply ∷ [])
-        → AllByRecursion IsWhole (complete_after (before ++ reply ∷ []) replies))
-        → AllByRecursion IsWhole (complete_exchanges replies)
-        → AllByRecursion IsWhole (if test then complete_after (before ++ reply ∷ []) replies
+        → AllByRecursion IsWholeExchange (complete_after (before ++ reply ∷ []) replies))
+        → AllByRecursion IsWholeExchange (complete_exchanges replies)
+        → AllByRecursion IsWholeExchange (if test then complete_after (before ++ reply ∷ []) replies
         else (before ++ reply ∷ []) ∷ complete_exchanges replies)
     by_test true is on after = on (goes_on before reply all is)
     by_test false is on after = (ends before reply all is, after)

@@ -6,7 +6,7 @@ use Rattle.std.specs.Str.Lossy.{utf8_lossy}
 use Rattle.unftp_control_defs.specs.Bytes.{Bytes}
 use Rattle.unftp_control_defs.specs.ComputedValue.{value_of}
 use Rattle.unftp_control_defs.specs.Events.{Fault, FtpEvent, Command, Refused, event_for, event_of, exceeds, line_too_long}
-use Rattle.unftp_control_defs.specs.FtpCommand.{Answer, FtpCommand, Acct, InvalidUtf8, Other, Pass, Site, unless_empty, verbs}
+use Rattle.unftp_control_defs.specs.FtpCommand.{Outcome, FtpCommand, Acct, InvalidUtf8, Other, Pass, Site, unless_empty, verbs}
 use Rattle.unftp_control_defs.specs.Outcome.{outcome, site_answer, value_answer, word_answer}
 use Rattle.unftp_control_defs.specs.Rules.{row_of, subcommand_answer, taken}
 use Rattle.unftp_control_defs.specs.declared.verb.Kind.TheVariants as kinds
@@ -34,18 +34,18 @@ abbrev hidden : Option Bytes → Option Bytes → Visible
 hidden verb subcommand = cond (names_site verb) (hidden_site subcommand) (hidden_verb verb)
 
 -- an answer that depends on the UTF-8 of a word, and on a value
-after_utf8 : (utf8 : Bool) (answer : Answer) (command : FtpCommand)
+after_utf8 : (utf8 : Bool) (answer : Outcome) (command : FtpCommand)
     → cond utf8 answer (Err InvalidUtf8) ≡ Ok command → answer ≡ Ok command
 after_utf8 true answer command is = is
 after_utf8 false answer command is = absurd (cc)
 
 -- every command that this makes of a value is shown so
-abbrev Shows : (Bytes → Answer) → Visible → Type 0
+abbrev Shows : (Bytes → Outcome) → Visible → Type 0
 Shows answer shown = (v : Bytes) (command : FtpCommand) → answer v ≡ Ok command
     → visible_command command ≡ shown
 
 made : (command other : FtpCommand) (shown : Visible) → visible_command command ≡ shown
-    → ◌≡◌ {A = Answer} (Ok command) (Ok other) → visible_command other ≡ shown
+    → ◌≡◌ {A = Outcome} (Ok command) (Ok other) → visible_command other ≡ shown
 made command other shown so is =
     let same : command ≡ other = cc in subst (λ c. visible_command c ≡ shown) same so
 
@@ -79,7 +79,7 @@ module _ (line : Bytes) (command : FtpCommand) (is : outcome line ≡ Ok command
   answered : word_answer verb (row_of verb verbs) (parameter_of line) ≡ Ok command
   answered = after_utf8 (is_utf8 (verb_of line)) _ command is
 
-  shown_as : (answer : Bytes → Answer) (shown : Visible) → Shows answer shown
+  shown_as : (answer : Bytes → Outcome) (shown : Visible) → Shows answer shown
       → (value : Option Bytes) → value_answer answer value ≡ Ok command
       → visible_command command ≡ shown
   shown_as answer shown each None is = absurd (cc)
@@ -215,7 +215,7 @@ visible-known limit line = by_test (exceeds limit (length line)) (outcome line) 
     by_shown command is true shows = refl
     by_shown command is false hides = command_hidden line command is hides
 
-    by_test : (long : Bool) (answer : Answer) → outcome line ≡ answer
+    by_test : (long : Bool) (answer : Outcome) → outcome line ≡ answer
         → visible (cond long (Refused line_too_long) (event_of answer)) (cond long [] line)
         ≡ shown_of (known_of (cond long (Refused line_too_long) (event_of answer))
         (cond long [] line))

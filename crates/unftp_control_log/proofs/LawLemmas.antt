@@ -7,7 +7,7 @@ use Rattle.std.proofs.lemmas.Bool.{ltb-false}
 use Rattle.unftp_control_defs.specs.Bytes.{Bytes}
 use Rattle.unftp_control_defs.proofs.LineLemmas.{lines_of-incomplete}
 use Rattle.unftp_control_serve.specs.Decoder.{kept_length, no_bytes}
-use Rattle.unftp_control_log.specs.Exchanges.{IsWhole, Read, all_asked, complete_exchanges, entries, log_lines}
+use Rattle.unftp_control_log.specs.Exchanges.{IsWholeExchange, Read, all_asked, complete_exchanges, entries, log_lines}
 use Rattle.unftp_control_log.specs.Recording.{IsNew, IsRecorded, IsWaiting, LacksNext, Passed}
 use Rattle.unftp_control_log.specs.ToCome.{AreRead, exchanges_from, exchanges_to_come, greeting_to_come, lines_to_come, replies_so_far}
 use Rattle.unftp_control_log.specs.declared.sent.SentLines.{SentLines}
@@ -94,9 +94,9 @@ module _ {limits : Limits} {recorder later : Recorder} {passed : Passed}
       (ap (λ bytes. bytes ++ (passed.given ++ [])) (ap (λ p. p.bytes) new.pending)
       ∙ append-nil passed.given) (is.read [])))
 
-  pub all_whole : AllByRecursion (λ entry. IsWhole entry.replies) passed.recorded
-  all_whole = mapped_first IsWhole (λ entry. entry.replies) passed.recorded
-      (exchanges_to_come later.turn []) (subst (AllByRecursion IsWhole)
+  pub all_whole : AllByRecursion (λ entry. IsWholeExchange entry.replies) passed.recorded
+  all_whole = mapped_first IsWholeExchange (λ entry. entry.replies) passed.recorded
+      (exchanges_to_come later.turn []) (subst (AllByRecursion IsWholeExchange)
       (sym (new_exchanges_are (is.replies ++ [])) ∙ is.exchanges [])
       (complete-whole (is.replies ++ []) [] tt))
 

@@ -51,8 +51,8 @@ abbrev pub ArePreliminary : List Read → Type 0
 ArePreliminary replies = AllByRecursion (λ reply. is_preliminary_read reply ≡ true) replies
 
 -- some preliminary ones, and then a final one
-abbrev pub IsWhole : List Read → Type 0
-IsWhole replies = IsExchangeBy is_preliminary_read replies
+abbrev pub IsWholeExchange : List Read → Type 0
+IsWholeExchange replies = IsExchangeBy is_preliminary_read replies
 
 -- Each is to its line, as long as there are both.
 abbrev pub entries : List (Option Bytes) → List (List Read) → List Entry

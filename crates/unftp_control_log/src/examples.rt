@@ -14,7 +14,7 @@ ghost use Rattle.unftp_control_read.specs.ReplyDecoding.{PendingReplies};
 ghost use Rattle.unftp_control_read.specs.declared.errors.NextReplyError.{NextReplyError as RustError};
 ghost use Rattle.unftp_control_serve.specs.Decoder.{no_bytes, pushed};
 ghost use Rattle.unftp_control_log.specs.ExchangeLine.{exchange_line, lines_text, replies_text, reply_text};
-ghost use Rattle.unftp_control_log.specs.Exchanges.{Entry, IsWhole, all_asked, complete_exchanges, entries, log_lines, open_after, open_part};
+ghost use Rattle.unftp_control_log.specs.Exchanges.{Entry, IsWholeExchange, all_asked, complete_exchanges, entries, log_lines, open_after, open_part};
 ghost use Rattle.unftp_control_log.specs.Recording.{IsBroken, IsNew, IsRecorded, IsUnanswered, IsWaiting, MeansError, TakesUnanswered, joined, one_entry, sent_piece};
 ghost use Rattle.unftp_control_log.specs.ToCome.{AreRead, HasNext, HasNoLine, HasNoReply, exchanges_from, exchanges_to_come, greeting_to_come, lines_to_come, new_lines, replies_so_far};
 ghost use Rattle.unftp_control_log.specs.declared.recorder.Limits.{Limits as RustLimits};
@@ -157,9 +157,9 @@ pub fn exchanges_end_with_a_final_reply()
         ≡ ((220, []) ∷ []) ∷ ((150, []) ∷ (226, []) ∷ []) ∷ [] }
     ensures left { open_after [] ((220, []) ∷ (150, []) ∷ []) ≡ (150, []) ∷ [] }
     ensures none_left { open_part (open_after [] ((220, []) ∷ [])) ≡ [] }
-    ensures whole { IsWhole ((150, []) ∷ (226, []) ∷ []) }
-    ensures two { IsWhole ((226, []) ∷ (226, []) ∷ []) → ⊥ }
-    ensures no_reply { IsWhole [] → ⊥ }
+    ensures whole { IsWholeExchange ((150, []) ∷ (226, []) ∷ []) }
+    ensures two { IsWholeExchange ((226, []) ∷ (226, []) ∷ []) → ⊥ }
+    ensures no_reply { IsWholeExchange [] → ⊥ }
 {}
 
 /// Each is to its line, and none is where a line has no replies, or replies have no line.

@@ -11,7 +11,7 @@ ghost use Rattle.unftp_control_log.specs.LogLine.{IsPrintable, is_listed, log_li
 ghost use Rattle.unftp_control_defs.specs.TakingSteps.{AreReplies};
 ghost use Rattle.unftp_control_defs.specs.Turns.{cut_reads};
 ghost use Rattle.unftp_control_log.specs.ExchangeLine.{exchange_line};
-ghost use Rattle.unftp_control_log.specs.Exchanges.{Entry, ArePreliminary, IsWhole, Read, all_asked, complete_exchanges, entries, open_after, open_part};
+ghost use Rattle.unftp_control_log.specs.Exchanges.{Entry, ArePreliminary, IsWholeExchange, Read, all_asked, complete_exchanges, entries, open_after, open_part};
 ghost use Rattle.unftp_control_log.specs.Recording.{IsBroken, IsNew, IsRecorded, IsWaiting, Passed, joined, nothing_passed, Records};
 ghost use Rattle.unftp_control_log.specs.ToCome.{AreRead, exchanges_to_come, lines_to_come};
 ghost use Rattle.unftp_control_read.specs.declared.errors.NextReplyError.{NextReplyError as RustError};
@@ -91,7 +91,7 @@ pub fn each_line_has_its_replies()
     // Each has some preliminary replies and then a final one.
     ensures whole { (limits : RustLimits) (recorder later : RustRecorder) (passed : Passed)
         → IsNew limits recorder → IsRecorded recorder passed later
-        → AllByRecursion (λ entry. IsWhole entry.replies) passed.recorded }
+        → AllByRecursion (λ entry. IsWholeExchange entry.replies) passed.recorded }
 {}
 
 /// Where no exchange is returned any more, no more is held than a part of a reply, or an incomplete

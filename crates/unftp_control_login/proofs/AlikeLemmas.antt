@@ -4,17 +4,17 @@ use Rattle.std.specs.Prelude.{if◌then◌else◌, flat_map, length, Ok, Err}
 use Rattle.std.proofs.lemmas.Bool.{false≢true}
 use Rattle.unftp_control_defs.specs.Bytes.{Bytes}
 use Rattle.unftp_control_defs.specs.Canonical.{canonical_line}
-use Rattle.unftp_control_defs.specs.FtpCommand.{Answer, User, Pass, unless_empty}
+use Rattle.unftp_control_defs.specs.FtpCommand.{Outcome, User, Pass, unless_empty}
 use Rattle.unftp_control_defs.specs.Events.{Fault, FtpEvent, Command, Refused, event_of, events, exceeds, line_too_long}
 use Rattle.unftp_control_defs.specs.FtpReply.{FtpReply, Nothing, encoded}
 use Rattle.unftp_control_defs.specs.Lines.{incomplete_line, lines_of}
 use Rattle.unftp_control_defs.specs.Outcome.{outcome}
-use Rattle.unftp_control_defs.specs.Run.{SessionLaw, after, all_said, at_each, last_state, replies, replies_to, run_of, said, state_after, text_for, text_of, turn}
+use Rattle.unftp_control_defs.specs.Run.{SessionLaw, after, all_replies, at_each, last_state, replies, replies_to, run_of, turn_replies, state_after, text_for, text_of, turn}
 use Rattle.unftp_control_defs.proofs.LineEventLemmas.{events-after, events-canonical_line}
 use Rattle.unftp_control_defs.proofs.AnswerLemmas.{IsTyped-raw}
 use Rattle.unftp_control_codecs.specs.Memory.{AnswerMayTakeMemory, MayTakeMemory}
 use Rattle.unftp_control_serve.specs.Decoder.{FirstMayRunOut}
-use Rattle.unftp_control_serve.specs.Endings.{Cause, Finished, Write, Handler, LineMemory, ReplyMemory, EndsAt, HasGiven, Unsent, whole_text}
+use Rattle.unftp_control_serve.specs.Endings.{Cause, Finished, Write, Handler, LineMemory, ReplyMemory, EndsAt, HasAnswered, Unsent, whole_text}
 use Rattle.unftp_control_serve.specs.Writing.{Begins}
 use Rattle.unftp_control_login.specs.declared.stage.Stage.{Stage}
 use Rattle.unftp_control_login.specs.declared.stage.Stage.TheVariants.{NoName, Named, LoggedIn}
@@ -23,10 +23,10 @@ use Rattle.unftp_control_login.specs.Gate.{Answers, Gated, LogsIn, gated_law, no
 use Rattle.unftp_control_login.specs.LoginLimit.{is_pass}
 use Rattle.unftp_control_login.specs.Promises.{AccountsStayHidden, AtEachPlace, CallsHidePasswords, ErrorsHidePasswords, GivesPassword, IsRefusedLogin, LooksAlike, PasswordFits, PasswordsStayHidden, RefusedLoginsLookAlike, RefusedPasswordsLookAlike, gate_calls, guarded, login_lines, pass_line}
 use Rattle.unftp_control_login.proofs.StagedLemmas.{AllAlike, Alike, alike-itself, at, called, fails_alike, goes, turns}
-use Rattle.unftp_control_login.proofs.StageLemmas.{Reason, reason, stage_after-reason, stage_after_all, lifted, said-lifted}
+use Rattle.unftp_control_login.proofs.StageLemmas.{Reason, reason, stage_after-reason, stage_after_all, lifted, turn_replies-lifted}
 
 -- Lines of passwords may take memory.
-pass-answer : (answer : Answer) → IsTrue (is_pass (event_of answer)) → AnswerMayTakeMemory answer
+pass-answer : (answer : Outcome) → IsTrue (is_pass (event_of answer)) → AnswerMayTakeMemory answer
 pass-answer (Ok (Pass password)) h = omega arith
 pass-answer (Ok command) h = absurd (false≢true h)
 pass-answer (Err refusal) h = absurd (false≢true h)
@@ -202,10 +202,10 @@ module _ {S : Type 0} (law : SessionLaw S) where
       (same : AllAlike accepts other NoName NoName events others) where
     text-same : text_of gate (at accepts NoName s) (run_of gate (at accepts NoName s) events)
         ≡ text_of gate (at other NoName s) (run_of gate (at other NoName s) others)
-    text-same = ap (λ turns. flat_map encoded (all_said turns)) (sym (each-same accepts other
+    text-same = ap (λ turns. flat_map encoded (all_replies turns)) (sym (each-same accepts other
         (replies_to gate) (λ stage other_stage s event another alike.
-        ap said (turns law accepts other stage other_stage s event another alike)
-        ∙ said-lifted (at other (stage_after other other_stage another))
+        ap turn_replies (turns law accepts other stage other_stage s event another alike)
+        ∙ turn_replies-lifted (at other (stage_after other other_stage another))
         (turn gate (at accepts stage s) event)) NoName NoName s events others same))
 
     calls-same : at_each (gate_calls law) gate (at accepts NoName s)
@@ -302,8 +302,9 @@ module _ {S : Type 0} (law : SessionLaw S) where
         whole = ap (λ events. another ∷ events) o.whole;
         as_many = ap suc o.as_many;
         state = o.state ∙ ap (λ steps. last_state gate (state_after t steps) o.done_too) turns;
-        said_too = ap (λ later. said (turn gate t event) ++ later) o.said_too
-            ∙ ap (λ steps. said steps ++ replies gate (state_after t steps) o.done_too) turns;
+        said_too = ap (λ later. turn_replies (turn gate t event) ++ later) o.said_too
+            ∙ ap (λ steps. turn_replies steps ++ replies gate
+            (state_after t steps) o.done_too) turns;
         same_later = o.same_later;
       }
 
@@ -349,7 +350,7 @@ module _ {S : Type 0} (law : SessionLaw S) where
             ends_at = subst (λ t. EndsAt gate failed.cause t o.later_too failed.sent after.state)
                 o.state (ends-alike failed.cause (last_state gate t done) failed.later o.later_too
                 failed.sent after.state o.same_later failed.ended.ends_at);
-            given = subst (λ text. HasGiven text failed.cause before after)
+            given = subst (λ text. HasAnswered text failed.cause before after)
                 (by_sent t done o.done_too failed.sent (ap (flat_map encoded) o.said_too))
                 failed.ended.given;
           };
@@ -364,7 +365,7 @@ module _ {S : Type 0} (law : SessionLaw S) where
           → whole_text gate t done sent ≡ whole_text gate t others sent
       by_sent t done others [] same = same
       by_sent t done others (step ∷ steps) same =
-          ap (λ text. text ++ flat_map encoded (said (step ∷ steps))) same
+          ap (λ text. text ++ flat_map encoded (turn_replies (step ∷ steps))) same
 
   -- over inputs
   module _ (limit : Option ℕ) (accepts : Accounts) (failures : Option ℕ) (inner : S) where

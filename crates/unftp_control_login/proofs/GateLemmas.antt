@@ -16,7 +16,7 @@ use Rattle.unftp_control_login.specs.HandlerCalls.{Call, CallsMade, tells}
 use Rattle.unftp_control_login.specs.CallsOf.{calls_of, failures_of}
 use Rattle.unftp_control_login.specs.Login.{Accounts, is_login}
 use Rattle.unftp_control_login.specs.LoginLimit.{is_last, is_pass, too_many}
-use Rattle.unftp_control_login.specs.Gate.{Answers, Decision, Gated, LogsIn, decided, decided_by_password, decides, gated_law, is_logged_in, is_passed, left_after, limited, logged_in, name_needed, not_accepted, questions, stage_after, stage_after_password, state_by}
+use Rattle.unftp_control_login.specs.Gate.{Answers, Decision, Gated, LogsIn, decided, decided_by_password, decides, gated_law, is_logged_in, is_passed, attempts_after, limited, logged_in, name_needed, not_accepted, questions, stage_after, stage_after_password, state_by}
 use Rattle.unftp_control_login.specs.GateState.{Decided, GateAnswers, gated}
 use Rattle.unftp_control_login.specs.declared.gate.Gate.{Gate}
 use Rattle.unftp_control_login.specs.declared.inner.Inner.{Inner}
@@ -62,7 +62,7 @@ pub gate-answers : {A H S : Type 0} (accepts : A → Accounts) (state : H → S)
     → decides (gated accepts state before) event ≡ decision
     → Decided state failures law before.inner after.inner decision result
     → accepts after.accounts.accounts ≡ accepts before.accounts.accounts
-    → after.limit.left ≡ left_after before.limit.left (is_pass event)
+    → after.limit.left ≡ attempts_after before.limit.left (is_pass event)
     (decided (accepts before.accounts.accounts) before.stage event)
     → OnOk result (after.stage
     ≡ stage_after (accepts before.accounts.accounts) before.stage event)
@@ -127,11 +127,11 @@ refused-stays left reply = cond_both (is_last left) (Answers too_many) (Answers 
 
 -- No login fails by an event that is neither USER nor PASS,
 pub left-other : (left : Option ℕ) (event : FtpEvent) → is_login event ≡ false
-    → (decision : Decision) → left ≡ left_after left (is_pass event) decision
+    → (decision : Decision) → left ≡ attempts_after left (is_pass event) decision
 left-other left event other decision =
-    kept decision ∙ ap (λ at_pass. left_after left at_pass decision) (sym (no-pass event other))
+    kept decision ∙ ap (λ at_pass. attempts_after left at_pass decision) (sym (no-pass event other))
   where
-    kept : (decision : Decision) → left ≡ left_after left false decision
+    kept : (decision : Decision) → left ≡ attempts_after left false decision
     kept (Answers reply) = refl
     kept decision = refl
 

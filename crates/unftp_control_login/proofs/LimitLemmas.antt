@@ -5,7 +5,7 @@ use Rattle.std.proofs.lemmas.List.{append-nil}
 use Rattle.unftp_control_defs.specs.Events.{FtpEvent, Command, is_quit}
 use Rattle.unftp_control_defs.specs.FtpCommand.{Pass, Quit}
 use Rattle.unftp_control_defs.specs.FtpReply.{FtpReply}
-use Rattle.unftp_control_defs.specs.Run.{SessionLaw, after, said, state_after, replies_to}
+use Rattle.unftp_control_defs.specs.Run.{SessionLaw, after, turn_replies, state_after, replies_to}
 use Rattle.unftp_control_login.specs.Gate.{Answers, Decision, Gated, decided, decides, gated_law, is_passed, is_refusal, limited, name_needed, not_accepted, reply_by, state_by, unlimited}
 use Rattle.unftp_control_login.specs.LoginLimit.{EndsWith, failed_in_run, has_failure, is_failed_login, is_last, is_pass, is_used_up, one_fewer, too_many}
 use Rattle.unftp_control_login.proofs.MemberLemmas.{turned}
@@ -36,7 +36,7 @@ module _ {S : Type 0} (law : SessionLaw S) where
   -- whether a reply reports a failure, where this is decided
   abbrev fails : Gated S → Decision → Bool
   fails s decision = has_failure (reply_by law s.inner decision
-      ∷ said (cond (is_passed decision) (law.more (state_by law s.inner decision)) []))
+      ∷ turn_replies (cond (is_passed decision) (law.more (state_by law s.inner decision)) []))
 
   failed-refuses : (s : Gated S) (event : FtpEvent) → failed s event ≡ refuses s event
   failed-refuses s (Command (Pass password)) =

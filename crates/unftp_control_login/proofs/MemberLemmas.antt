@@ -10,7 +10,7 @@ use Rattle.unftp_control_defs.specs.Bytes.{Bytes}
 use Rattle.unftp_control_defs.specs.FtpCommand.{User, Pass}
 use Rattle.unftp_control_defs.specs.Events.{FtpEvent, Command, events}
 use Rattle.unftp_control_defs.specs.FtpReply.{FtpReply, IsReadable, reply_as_read}
-use Rattle.unftp_control_defs.specs.Run.{SessionLaw, after, all_said, ends, last_state, replies, run_for, run_of, said, state_after, text_for, turn, replies_by_event, replies_to}
+use Rattle.unftp_control_defs.specs.Run.{SessionLaw, after, all_replies, ends, last_state, replies, run_for, run_of, turn_replies, state_after, text_for, turn, replies_by_event, replies_to}
 use Rattle.unftp_control_defs.specs.Turns.{cut_after_final, cut_reads, is_preliminary_reply}
 use Rattle.unftp_control_defs.proofs.EncodingLemmas.{ReadsBack-encoded, are_plain, are_shown}
 use Rattle.unftp_control_defs.proofs.ExchangeLemmas.{all-append, cut-exchange, cut-read, length-replies_by_event}
@@ -20,7 +20,7 @@ use Rattle.unftp_control_login.specs.Login.{Accounts, GaveName, IsLoggedIn, is_l
 use Rattle.unftp_control_login.specs.Gate.{Answers, Decision, Gated, LogsIn, PassesOn, decided_by_password, decides, gated_law, is_barred, is_logged_in, is_passed, limited, logged_in, login_needed, name_needed, not_accepted, password_needed, reply_by, state_by}
 use Rattle.unftp_control_login.specs.LoginLimit.{is_used_up, too_many}
 use Rattle.unftp_control_login.specs.Promises.{AfterLogin, AtEachPlace, IsPlainExchange, IsTurnedAway, LearnsName, MembersAlone, NoFailure, ReachesHandler, SendsPlainExchanges, ServesMembersAlone, guarded}
-use Rattle.unftp_control_login.proofs.StageLemmas.{IsLoggedIn-stage, GaveName-stage, gate-after, gate-more, passed_more, logged_in-stage, needs-other, by-password, decided-barred, decided-open, decides-other, stage_after_all, said-lifted}
+use Rattle.unftp_control_login.proofs.StageLemmas.{IsLoggedIn-stage, GaveName-stage, gate-after, gate-more, passed_more, logged_in-stage, needs-other, by-password, decided-barred, decided-open, decides-other, stage_after_all, turn_replies-lifted}
 use Rattle.unftp_control_login.proofs.FinalLemmas.{IsFinal, final}
 use Rattle.unftp_control_login.proofs.StagedLemmas.{at, last-at}
 
@@ -34,7 +34,8 @@ module _ {S : Type 0} (law : SessionLaw S) (s : Gated S) (event : FtpEvent) wher
   abbrev Turns : Decision → List FtpReply → S → Type 0
   Turns decision sent inner =
       (reply_by law s.inner decision
-      ∷ said (if is_passed decision then law.more (state_by law s.inner decision) else []) ≡ sent)
+      ∷ turn_replies (if is_passed decision then law.more (state_by law s.inner decision) else [])
+          ≡ sent)
       × (state_after (state_by law s.inner decision)
       (if is_passed decision then law.more (state_by law s.inner decision) else []) ≡ inner)
 
@@ -47,7 +48,7 @@ module _ {S : Type 0} (law : SessionLaw S) (s : Gated S) (event : FtpEvent) wher
       let so : Turns (decides s event) sent inner =
       subst (λ decision. Turns decision sent inner) (sym is) turns in (
         ap (λ replies. (gated_law law).says s event ∷ replies)
-            (ap said (gate-more law n) ∙ said-lifted _ (passed_more law n)) ∙ so.0,
+            (ap turn_replies (gate-more law n) ∙ turn_replies-lifted _ (passed_more law n)) ∙ so.0,
         ap (λ (s : Gated S). s.inner) (gate-after law n) ∙ so.1,
       )
 
@@ -218,17 +219,17 @@ run-plain law s (event ∷ events) sends =
     )
 
 plain-readable : (turns : List (List FtpReply)) → AllByRecursion IsPlainExchange turns
-    → AllByRecursion IsReadable (all_said turns)
+    → AllByRecursion IsReadable (all_replies turns)
 plain-readable [] plain = tt
 plain-readable (turn ∷ turns) plain =
-    all-append IsReadable turn (all_said turns) plain.0.1 (plain-readable turns plain.1)
+    all-append IsReadable turn (all_replies turns) plain.0.1 (plain-readable turns plain.1)
 
 -- a client that cuts them after each final one has those to each event apart
 plain-cut : (turns : List (List FtpReply)) → AllByRecursion IsPlainExchange turns
-    → cut_after_final (all_said turns) ≡ turns
+    → cut_after_final (all_replies turns) ≡ turns
 plain-cut [] plain = refl
 plain-cut (turn ∷ turns) plain =
-    cut-exchange is_preliminary_reply turn (all_said turns) plain.0.0
+    cut-exchange is_preliminary_reply turn (all_replies turns) plain.0.0
     ∙ ap (λ later. turn ∷ later) (plain-cut turns plain.1)
 
 -- What is read of a part of the replies.

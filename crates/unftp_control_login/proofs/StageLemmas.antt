@@ -8,7 +8,7 @@ use Rattle.unftp_control_defs.specs.Bytes.{Bytes}
 use Rattle.unftp_control_defs.specs.FtpCommand.{User, Pass, Auth}
 use Rattle.unftp_control_defs.specs.Events.{FtpEvent, Command, Refused}
 use Rattle.unftp_control_defs.specs.FtpReply.{FtpReply}
-use Rattle.unftp_control_defs.specs.Run.{SessionLaw, said, state_after}
+use Rattle.unftp_control_defs.specs.Run.{SessionLaw, turn_replies, state_after}
 use Rattle.unftp_control_defs.proofs.ExchangeLemmas.{all-append}
 use Rattle.unftp_control_login.specs.declared.stage.Stage.{Stage}
 use Rattle.unftp_control_login.specs.declared.stage.Stage.TheVariants.{NoName, Named, LoggedIn}
@@ -24,9 +24,9 @@ module _ {S T : Type 0} (other_of : S → T) where
   abbrev pub lifted : Steps S → Steps T
   lifted steps = map (λ step. (step.0, other_of step.1)) steps
 
-  pub said-lifted : (steps : Steps S) → said (lifted steps) ≡ said steps
-  said-lifted [] = refl
-  said-lifted (step ∷ steps) = ap (λ replies. step.0 ∷ replies) (said-lifted steps)
+  pub turn_replies-lifted : (steps : Steps S) → turn_replies (lifted steps) ≡ turn_replies steps
+  turn_replies-lifted [] = refl
+  turn_replies-lifted (step ∷ steps) = ap (λ replies. step.0 ∷ replies) (turn_replies-lifted steps)
 
   pub after-lifted : (s : S) (steps : Steps S)
       → state_after (other_of s) (lifted steps) ≡ other_of (state_after s steps)

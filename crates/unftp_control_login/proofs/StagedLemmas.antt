@@ -6,7 +6,7 @@ use Rattle.unftp_control_defs.specs.Run.{SessionLaw, after, last_state, state_af
 use Rattle.unftp_control_login.specs.declared.stage.Stage.{Stage}
 use Rattle.unftp_control_login.specs.Login.{Accounts}
 use Rattle.unftp_control_login.specs.HandlerCalls.{FailsIn, calls_in}
-use Rattle.unftp_control_login.specs.Gate.{Decision, Gated, PassesOn, all_calls_by, calls_by, decided, decides, gated_law, is_passed, left_after, limited, reply_by, stage_after, state_by}
+use Rattle.unftp_control_login.specs.Gate.{Decision, Gated, PassesOn, all_calls_by, calls_by, decided, decides, gated_law, is_passed, attempts_after, limited, reply_by, stage_after, state_by}
 use Rattle.unftp_control_login.specs.LoginLimit.{is_pass}
 use Rattle.unftp_control_login.specs.Promises.{gate_calls}
 use Rattle.unftp_control_login.proofs.StageLemmas.{stage_after_all, after-lifted, lifted, lifted-lifted}
@@ -76,11 +76,11 @@ module _ {S : Type 0} (law : SessionLaw S) where
         (turn gate (at accepts stage s) event)
     turns =
         (λ i. turn_by other (stage_after other other_stage another) s
-        (left_after s.left (sym alike.pass i) (sym alike.decision i)) (same_decision i)
+        (attempts_after s.left (sym alike.pass i) (sym alike.decision i)) (same_decision i)
         (sym alike.quit i))
         ∙ turn-lifted other (stage_after other other_stage another)
         (at accepts (stage_after accepts stage event) s)
-        (left_after s.left (is_pass event) (decided accepts stage event))
+        (attempts_after s.left (is_pass event) (decided accepts stage event))
         (decides (at accepts stage s) event) (is_quit event)
 
     pub goes : after gate (at other other_stage s) another

@@ -72,8 +72,8 @@ abbrev pub limited : Option ℕ → Bool → Decision → Decision
 limited left at_pass decision =
     if is_refusal at_pass decision && is_last left then Answers too_many else decision
 
-abbrev pub left_after : Option ℕ → Bool → Decision → Option ℕ
-left_after left at_pass decision = if is_refusal at_pass decision then one_fewer left else left
+abbrev pub attempts_after : Option ℕ → Bool → Decision → Option ℕ
+attempts_after left at_pass decision = if is_refusal at_pass decision then one_fewer left else left
 
 abbrev pub is_passed : Decision → Bool
 is_passed (PassesOn event) = true
@@ -137,7 +137,7 @@ gated_law law = record {
   says = λ s event. reply_by law s.inner (decides s event);
   next = λ s event. record {
     accepts = s.accepts;
-    left = left_after s.left (is_pass event) (decided s.accepts s.stage event);
+    left = attempts_after s.left (is_pass event) (decided s.accepts s.stage event);
     stage = stage_after s.accepts s.stage event;
     quit = s.quit || is_quit event;
     passed = is_passed (decides s event);

@@ -2,7 +2,7 @@
 use Rattle.std.proofs.Common.{◌≡◌, ◌<◌, ◌≤◌, ℕ, [], ◌∷◌, Some, None, Ok, ap, arith}
 use Rattle.std.specs.Char.{to_ascii_uppercase}
 use Rattle.std.proofs.lemmas.List.{length-map}
-use Rattle.unftp_control_defs.specs.FtpCommand.{Answer, FtpCommand, User, Pass, Acct, List, Site, Other, Said, said}
+use Rattle.unftp_control_defs.specs.FtpCommand.{Outcome, FtpCommand, User, Pass, Acct, List, Site, Other, Said, said}
 use Rattle.unftp_control_defs.specs.Verbs.{upper}
 use Rattle.unftp_control_message.specs.PartsMeaning.{Fails, held_len, said_len}
 use Rattle.unftp_control_message.specs.declared.reply.error.parse_error.ParseErrorKind.{ParseErrorKind}
@@ -25,7 +25,7 @@ held_said (Other name (b ∷ arguments)) = omega arith
 held_said command = omega arith
 
 -- where parts that give a command fail, memory ran out
-pub ran_out : (answer : Answer) (command : FtpCommand) (len : ℕ) (error : ParseErrorKind)
+pub ran_out : (answer : Outcome) (command : FtpCommand) (len : ℕ) (error : ParseErrorKind)
     → answer ≡ Ok command → Fails answer len error → 0 < len
 ran_out answer command len kind.InvalidCommand is fails = absurd (cc)
 ran_out answer command len kind.OutOfMemory is fails = fails

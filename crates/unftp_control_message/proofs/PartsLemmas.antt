@@ -2,7 +2,7 @@
 use Rattle.std.proofs.Common.{◌≡◌, ℕ, Bool, true, false, [], ◌∷◌, Some, None, Ok, Err, refl}
 use Rattle.unftp_control_defs.specs.Bytes.{Bytes}
 use Rattle.unftp_control_defs.specs.FtpCommand.{FtpCommand, User, Pass, Acct, Stat, List, Nlst, Mlst, Mlsd, Site, Other, Said, InvalidCommand, Chosen, Nothing, Number, Raw, Text, Value, command_by, kind, said}
-use Rattle.unftp_control_defs.specs.Said.{answer_of}
+use Rattle.unftp_control_defs.specs.Said.{outcome_of}
 use Rattle.unftp_control_defs.specs.Verbs.{upper}
 use Rattle.unftp_control_message.specs.PartsMeaning.{IsItsParts}
 use Rattle.unftp_control_defs.specs.declared.parameters.Choice.{Choice}
@@ -62,7 +62,7 @@ refused verb name (Number number) = refused_number number verb name
 
 -- what a command says makes it again
 pub its_parts : (command : FtpCommand) (parts : Said) → IsItsParts command → parts ≡ said command
-    → answer_of (record parts { name = upper parts.name }) ≡ Ok command
+    → outcome_of (record parts { name = upper parts.name }) ≡ Ok command
 its_parts (User []) parts is e = rw e refl
 its_parts (User (b ∷ v)) parts is e = rw e refl
 its_parts (Pass []) parts is e = rw e refl

@@ -3,8 +3,8 @@ use Rattle.std.specs.Prelude.{◌≡◌, ◌+◌, ◌<◌, ℕ, ⊤, length, Opt
 use Rattle.std.specs.Str.{IsUtf8}
 use Rattle.std.specs.Str.Lossy.{utf8_lossy}
 use Rattle.unftp_control_defs.specs.Bytes.{Bytes}
-use Rattle.unftp_control_defs.specs.FtpCommand.{Answer, FtpCommand, InvalidCommand, User, Pass, Acct, List, Nothing, Other, Site, Number, Raw, Text, Chosen, Value as SaidValue, Said, said}
-use Rattle.unftp_control_defs.specs.Said.{answer_of}
+use Rattle.unftp_control_defs.specs.FtpCommand.{Outcome, FtpCommand, InvalidCommand, User, Pass, Acct, List, Nothing, Other, Site, Number, Raw, Text, Chosen, Value as SaidValue, Said, said}
+use Rattle.unftp_control_defs.specs.Said.{outcome_of}
 use Rattle.unftp_control_defs.specs.declared.verb.Kind.{Kind}
 use Rattle.unftp_control_defs.specs.declared.verb.Kind.TheVariants as kinds
 use Rattle.unftp_control_defs.specs.Verbs.{upper}
@@ -18,17 +18,17 @@ use Rattle.unftp_control_message.specs.declared.sent.Sent.TheVariants as sent
 use Rattle.unftp_control_message.specs.declared.reply.error.parse_error.ParseErrorKind.{ParseErrorKind}
 use Rattle.unftp_control_message.specs.declared.reply.error.parse_error.ParseErrorKind.TheVariants as kind
 
-abbrev pub given : Value → SaidValue
-given rust.None = Nothing
-given (rust.Raw value) = Raw (sent_value value)
-given (rust.Text text) = Text text.now
-given (rust.Lossy value) = Text (utf8_lossy (sent_value value))
-given (rust.Chosen choice) = Chosen choice
-given (rust.Number number) = Number number
+abbrev pub said_value : Value → SaidValue
+said_value rust.None = Nothing
+said_value (rust.Raw value) = Raw (sent_value value)
+said_value (rust.Text text) = Text text.now
+said_value (rust.Lossy value) = Text (utf8_lossy (sent_value value))
+said_value (rust.Chosen choice) = Chosen choice
+said_value (rust.Number number) = Number number
 
 -- what parts say, their name as it is spelled
 abbrev pub spelled : Parts → Said
-spelled parts = record { verb = parts.verb; name = parts.name.now; value = given parts.value }
+spelled parts = record { verb = parts.verb; name = parts.name.now; value = said_value parts.value }
 
 -- what parts say, whatever the case of their name
 abbrev pub said_of : Parts → Said
@@ -82,14 +82,14 @@ held_len (Other name arguments) = length name + length arguments
 held_len command = said_len (said command)
 
 -- The answer is a refusal; or memory ran out for so many bytes.
-abbrev pub Fails : Answer → ℕ → ParseErrorKind → Type 0
+abbrev pub Fails : Outcome → ℕ → ParseErrorKind → Type 0
 Fails answer len kind.InvalidCommand = answer ≡ Err InvalidCommand
 Fails answer len kind.OutOfMemory = 0 < len
 Fails answer len _ = ⊥
 
 -- So does making a command of parts.
 abbrev pub FailsAs : Parts → ParseErrorKind → Type 0
-FailsAs parts error = Fails (answer_of (said_of parts)) (said_len (said_of parts)) error
+FailsAs parts error = Fails (outcome_of (said_of parts)) (said_len (said_of parts)) error
 
 -- a verb of this kind takes a text, or none
 abbrev pub TakesOptionalText : Kind → Type 0
@@ -98,6 +98,6 @@ TakesOptionalText kinds.Listing = ⊤
 TakesOptionalText kinds.Subcommand = ⊤
 TakesOptionalText _ = ⊥
 
-abbrev pub Makes : Answer → ℕ → Result Command ParseErrorKind → Type 0
-Makes answer len (Ok command) = answer ≡ Ok (command_of command)
-Makes answer len (Err error) = Fails answer len error
+abbrev pub MakesCommand : Outcome → ℕ → Result Command ParseErrorKind → Type 0
+MakesCommand answer len (Ok command) = answer ≡ Ok (command_of command)
+MakesCommand answer len (Err error) = Fails answer len error

@@ -2,11 +2,11 @@
 ghost use Rattle.std.specs.Prelude.{◌≡◌, ◌<◌, Ok, Option, IfErr, IfOk, OnErr, length, option_map, string_bytes};
 ghost use Rattle.unftp_control_defs.specs.Bytes.{Bytes as Sequence};
 ghost use Rattle.unftp_control_defs.specs.FtpCommand.{FtpCommand, Text, by_named_text, by_raw, kind, maybe_raw, maybe_text};
-ghost use Rattle.unftp_control_defs.specs.Said.{answer_of};
+ghost use Rattle.unftp_control_defs.specs.Said.{outcome_of};
 ghost use Rattle.unftp_control_defs.specs.Verbs.{upper};
 ghost use Rattle.unftp_control_defs.specs.declared.verb.Kind.TheVariants as kinds;
 ghost use Rattle.unftp_control_defs.specs.declared.verb.Verb.TheVariants as verbs;
-ghost use Rattle.unftp_control_message.specs.PartsMeaning.{FailsAs, Makes, TakesOptionalText, given, said_len, said_of};
+ghost use Rattle.unftp_control_message.specs.PartsMeaning.{FailsAs, MakesCommand, TakesOptionalText, said_value, said_len, said_of};
 
 use crate::Command;
 use crate::parts::{Parts, Value};
@@ -41,7 +41,7 @@ fn upper_cased(alloc: Global, name: &str) -> Result<String, AllocError>
 pub fn bytes(alloc: Global, parts: &Parts<'_>) -> Result<Bytes, ParseErrorKind>
     requires { kind parts.now.verb ≡ kinds.Raw }
     ensures ok { IfOk result (λ bytes. (make : Sequence → FtpCommand) (name : Sequence)
-        → by_raw make name (given parts.now.value) ≡ Ok (make bytes)) }
+        → by_raw make name (said_value parts.now.value) ≡ Ok (make bytes)) }
     ensures err { IfErr result (λ kind. FailsAs parts.now kind) }
 {
     match parts.value {
@@ -55,7 +55,7 @@ pub fn bytes(alloc: Global, parts: &Parts<'_>) -> Result<Bytes, ParseErrorKind>
 #[tactic(auto, using(crate::proofs::PartsLemmas::taking))]
 pub fn optional_bytes(alloc: Global, parts: &Parts<'_>) -> Result<Option<Bytes>, ParseErrorKind>
     requires { kind parts.now.verb ≡ kinds.Raw }
-    ensures ok { IfOk result (λ bytes. given parts.now.value ≡ maybe_raw bytes) }
+    ensures ok { IfOk result (λ bytes. said_value parts.now.value ≡ maybe_raw bytes) }
     ensures err { IfErr result (λ kind. FailsAs parts.now kind) }
 {
     match parts.value {
@@ -69,7 +69,7 @@ pub fn optional_bytes(alloc: Global, parts: &Parts<'_>) -> Result<Option<Bytes>,
 #[tactic(auto, using(crate::proofs::PartsLemmas::taking))]
 pub fn text(alloc: Global, parts: &Parts<'_>) -> Result<String, ParseErrorKind>
     requires { kind parts.now.verb ≡ kinds.Text }
-    ensures ok { IfOk result (λ text. given parts.now.value ≡ Text (string_bytes text)) }
+    ensures ok { IfOk result (λ text. said_value parts.now.value ≡ Text (string_bytes text)) }
     ensures err { IfErr result (λ kind. FailsAs parts.now kind) }
 {
     match parts.value {
@@ -84,7 +84,7 @@ pub fn text(alloc: Global, parts: &Parts<'_>) -> Result<String, ParseErrorKind>
 pub fn optional_text(alloc: Global, parts: &Parts<'_>) -> Result<Option<String>, ParseErrorKind>
     requires { TakesOptionalText (kind parts.now.verb) }
     ensures ok { IfOk result
-        (λ text. given parts.now.value ≡ maybe_text (option_map string_bytes text)) }
+        (λ text. said_value parts.now.value ≡ maybe_text (option_map string_bytes text)) }
     ensures err { IfErr result (λ kind. FailsAs parts.now kind) }
 {
     match parts.value {
@@ -100,7 +100,7 @@ pub fn optional_text(alloc: Global, parts: &Parts<'_>) -> Result<Option<String>,
 fn arguments(alloc: Global, parts: &Parts<'_>) -> Result<String, ParseErrorKind>
     requires { TakesOptionalText (kind parts.now.verb) }
     ensures ok { IfOk result (λ arguments. (make : Sequence → Sequence → FtpCommand)
-        (name : Sequence) → by_named_text make name (given parts.now.value)
+        (name : Sequence) → by_named_text make name (said_value parts.now.value)
         ≡ Ok (make name (string_bytes arguments))) }
     ensures err { IfErr result (λ kind. FailsAs parts.now kind) }
 {
@@ -115,7 +115,7 @@ fn arguments(alloc: Global, parts: &Parts<'_>) -> Result<String, ParseErrorKind>
 /// SITE with another subcommand.
 pub fn site(alloc: Global, parts: &Parts<'_>) -> Result<Command, ParseErrorKind>
     requires { parts.now.verb ≡ verbs.Site }
-    ensures { Makes (answer_of (said_of parts.now)) (said_len (said_of parts.now)) result }
+    ensures { MakesCommand (outcome_of (said_of parts.now)) (said_len (said_of parts.now)) result }
 {
     let arguments = arguments(alloc, parts)?;
     Ok(Command::Site {
@@ -127,7 +127,7 @@ pub fn site(alloc: Global, parts: &Parts<'_>) -> Result<Command, ParseErrorKind>
 /// A verb with no rule of its own.
 pub fn other(alloc: Global, parts: &Parts<'_>) -> Result<Command, ParseErrorKind>
     requires { parts.now.verb ≡ verbs.Other }
-    ensures { Makes (answer_of (said_of parts.now)) (said_len (said_of parts.now)) result }
+    ensures { MakesCommand (outcome_of (said_of parts.now)) (said_len (said_of parts.now)) result }
 {
     let arguments = arguments(alloc, parts)?;
     Ok(Command::Other {

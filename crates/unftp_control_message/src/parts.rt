@@ -1,9 +1,9 @@
 //! What a command says: a verb, a name and a value, borrowed from its line or from the command.
 ghost use Rattle.std.specs.Prelude.{◌≡◌, ◌↔◌, IsTrue, option_map, string_bytes};
 ghost use Rattle.unftp_control_defs.specs.FtpCommand.{maybe_raw, maybe_text, said, unless_empty};
-ghost use Rattle.unftp_control_defs.specs.Said.{HasTypedFields, answer_of, name_and_value, value_bytes, word_and_value};
+ghost use Rattle.unftp_control_defs.specs.Said.{HasTypedFields, outcome_of, name_and_value, value_bytes, word_and_value};
 ghost use Rattle.unftp_control_message.specs.CommandMeaning.{command_of};
-ghost use Rattle.unftp_control_message.specs.PartsMeaning.{AreInPlace, IsInPlace, Makes, given, said_len, said_of, spelled};
+ghost use Rattle.unftp_control_message.specs.PartsMeaning.{AreInPlace, IsInPlace, MakesCommand, said_value, said_len, said_of, spelled};
 
 use crate::password::Password;
 use crate::reply::error::ParseErrorKind;
@@ -58,7 +58,7 @@ impl<'a> Value<'a> {
     #[inline(always)]
     pub fn bytes(self, digits: &'a mut Buffer) -> Option<&'a [u8]>
         requires { IsInPlace self }
-        ensures { option_map (λ bytes. bytes.now) result ≡ value_bytes (given self.entry) }
+        ensures { option_map (λ bytes. bytes.now) result ≡ value_bytes (said_value self.entry) }
     {
         if let Value::Number(number) = self {
             return Some(digits.format(number).as_bytes());
@@ -173,7 +173,8 @@ impl Command {
     /// `InvalidCommand` where the verb takes no such value, and `OutOfMemory` where there is none
     /// for its texts.
     pub fn from_parts(alloc: Global, parts: &Parts<'_>) -> Result<Command, ParseErrorKind>
-        ensures { Makes (answer_of (said_of parts.now)) (said_len (said_of parts.now)) result }
+        ensures { MakesCommand (outcome_of (said_of parts.now))
+            (said_len (said_of parts.now)) result }
     {
         for_each_command!(command_of!(alloc, parts))
     }
@@ -232,7 +233,7 @@ impl Command {
     #[inline(always)]
     #[tactic(auto, using(crate::proofs::SaidLemmas::texts))]
     fn value(&self) -> Value<'_>
-        ensures value { given result ≡ (said (command_of self.now)).value }
+        ensures value { said_value result ≡ (said (command_of self.now)).value }
         ensures in_place { IsInPlace result }
         ensures typed { HasTypedFields (command_of self.now) }
     {
@@ -276,7 +277,7 @@ impl Command {
 
 /// Bytes, or none where there are none.
 fn bytes(bytes: &[u8]) -> Value<'_>
-    ensures value { given result ≡ maybe_raw (unless_empty bytes.now) }
+    ensures value { said_value result ≡ maybe_raw (unless_empty bytes.now) }
     ensures in_place { IsInPlace result }
 {
     if bytes.is_empty() {
@@ -287,7 +288,7 @@ fn bytes(bytes: &[u8]) -> Value<'_>
 
 /// Bytes or none.
 fn optional_bytes(bytes: &Option<Bytes>) -> Value<'_>
-    ensures value { given result ≡ maybe_raw bytes.now }
+    ensures value { said_value result ≡ maybe_raw bytes.now }
     ensures in_place { IsInPlace result }
 {
     match bytes {
@@ -298,7 +299,7 @@ fn optional_bytes(bytes: &Option<Bytes>) -> Value<'_>
 
 /// A text, or none where it is empty.
 fn text(text: &str) -> Value<'_>
-    ensures value { given result ≡ maybe_text (unless_empty text.now) }
+    ensures value { said_value result ≡ maybe_text (unless_empty text.now) }
     ensures in_place { IsInPlace result }
 {
     if text.is_empty() {
@@ -309,7 +310,7 @@ fn text(text: &str) -> Value<'_>
 
 /// A text or none.
 fn optional_text(text: &Option<String>) -> Value<'_>
-    ensures value { given result ≡ maybe_text (option_map string_bytes text.now) }
+    ensures value { said_value result ≡ maybe_text (option_map string_bytes text.now) }
     ensures in_place { IsInPlace result }
 {
     match text {

@@ -19,12 +19,12 @@ use Rattle.unftp_control_serve.specs.ClientLines.{front_line, unless_too_long}
 use Rattle.unftp_control_serve.specs.Decoder.{line_in, without_line}
 use Rattle.unftp_control_serve.proofs.ClientLineLemmas.{cut_front}
 use Rattle.unftp_control_write.specs.Forwarding.{IsForwarded}
-use Rattle.unftp_control_client.specs.Dialogue.{after_line, after_reply, awaits_tls, first_owed, is_something, next_to}
+use Rattle.unftp_control_client.specs.Dialogue.{after_command, after_reply, awaits_tls, first_owed, is_something, next_to}
 use Rattle.unftp_control_client.specs.ForwardingSteps.{IsGreeted}
 use Rattle.unftp_control_client.specs.declared.dialogue.Dialogue.{Dialogue}
 use Rattle.unftp_control_client.proofs.ClientStepLemmas.{answered-after_final, answered_after, sent-after_final}
 use Rattle.unftp_control_proxy.specs.ProxyAnswers.{IsReplyOf}
-use Rattle.unftp_control_proxy.specs.ProxyCalls.{AnsweredBy, Fate, GivesAnswer, IsDecidable, IsLookedFor, IsWholeReply, PassesReply, ProxyState, ReplyBytes, SentAs, TakesReplyBytes, decided, greeting_owed, server_owes, waits}
+use Rattle.unftp_control_proxy.specs.ProxyCalls.{AnsweredBy, Fate, GivesAnswer, IsDecidable, IsLookedFor, IsWholeReply, PassesReply, ProxyState, ReplyBytes, SentAs, TakesReplyBytes, after_fate, greeting_owed, server_owes, waits}
 use Rattle.unftp_control_proxy.specs.Traffic.{IsSingle, IsTraffic, held_fate, nothing_passed, one_answer, one_line, one_reply}
 use Rattle.unftp_control_proxy.proofs.AnswerLemmas.{read_is_final}
 
@@ -112,7 +112,7 @@ module _ (before later : ProxyState) (may : IsDecidable before) where
   not_full : nat_le before.limits.waiting (server_owes before.dialogue) ≡ false
   not_full = (goes_on before may.goes_on).1
 
-  sends : (sent : Bytes) → IsLine sent → later ≡ decided before (SentAs sent)
+  sends : (sent : Bytes) → IsLine sent → later ≡ after_fate before (SentAs sent)
       → IsTraffic before (one_line line (SentAs sent)) later
   sends sent one is = record {
     client = taken (ap (λ (p : ProxyState). p.client) is);
@@ -124,7 +124,7 @@ module _ (before later : ProxyState) (may : IsDecidable before) where
     fates = ap (λ answer. held_fate answer ++ SentAs sent ∷ []) none_held
         ∙ ap (λ answer. SentAs sent ∷ held_fate answer)
         (sym (ap (λ (p : ProxyState). p.answer) is ∙ none_held));
-    steps = (after_line sent before.dialogue, refl, ap (λ (p : ProxyState). p.dialogue) is);
+    steps = (after_command sent before.dialogue, refl, ap (λ (p : ProxyState). p.dialogue) is);
     bounded = grind (
       arith,
       nat_tests,
@@ -136,7 +136,7 @@ module _ (before later : ProxyState) (may : IsDecidable before) where
   }
 
   answers : (reply : FtpReply) → IsSingle (AnsweredBy reply)
-      → later ≡ decided before (AnsweredBy reply)
+      → later ≡ after_fate before (AnsweredBy reply)
       → IsTraffic before (one_line line (AnsweredBy reply)) later
   answers reply one is = record {
     client = taken (ap (λ (p : ProxyState). p.client) is);
@@ -153,7 +153,7 @@ module _ (before later : ProxyState) (may : IsDecidable before) where
     line_limit = ap (λ (p : ProxyState). p.client.limit) is;
   }
 
-  pub decides : (fate : Fate) → IsSingle fate → later ≡ decided before fate
+  pub decides : (fate : Fate) → IsSingle fate → later ≡ after_fate before fate
       → IsTraffic before (one_line line fate) later
   decides (SentAs sent) one is = sends sent one is
   decides (AnsweredBy reply) one is = answers reply one is
@@ -161,7 +161,7 @@ module _ (before later : ProxyState) (may : IsDecidable before) where
 module _ (before later : ProxyState) (sent sent_later : Bytes) (may : IsDecidable before)
     (some : line_in before.client ≢ [])
     (forwarded : IsForwarded (line_in before.client) sent sent_later)
-    (is : later ≡ decided before (SentAs (drop (length sent) sent_later))) where
+    (is : later ≡ after_fate before (SentAs (drop (length sent) sent_later))) where
   abbrev taken_line : Bytes
   taken_line = front_line before.client.bytes
 
@@ -189,7 +189,7 @@ module _ (before later : ProxyState) (sent sent_later : Bytes) (may : IsDecidabl
             ∙ sym means,
         decides before later may (SentAs (forwarded_line taken_line command))
             (subst (λ line. IsLine (forwarded_line line command)) same forwarded.is_line)
-            (is ∙ ap (λ line. decided before (SentAs line)) line_is),
+            (is ∙ ap (λ line. after_fate before (SentAs line)) line_is),
       )
 
 -- ---- what the client is given

@@ -19,11 +19,11 @@ use Rattle.unftp_control_serve.specs.declared.decoder.ClientLine.TheVariants.{Co
 use Rattle.unftp_control_serve.proofs.ClientLineLemmas.{HasFirst, first_line, is_long}
 use Rattle.unftp_control_write.specs.ClearLines.{has_clear_verb, is_clear, is_plain, is_plain_line}
 use Rattle.unftp_control_proxy.specs.ProxyAnswers.{is_answer}
-use Rattle.unftp_control_proxy.specs.ProxyCalls.{AnsweredBy, Fate, IsAnswerError, IsAppendedError, IsDecidable, IsLookedFor, MayBeSent, ProxyState, SentAs, decided, stops, waits}
+use Rattle.unftp_control_proxy.specs.ProxyCalls.{AnsweredBy, Fate, IsAnswerError, IsAppendedError, IsDecidable, IsLookedFor, MayBeSent, ProxyState, SentAs, after_fate, stops, waits}
 use Rattle.unftp_control_proxy.specs.Traffic.{DecidedLine, IsTraffic, client_lines, one_line, sent_for}
 use Rattle.unftp_control_proxy.specs.Filtering.{AreFiltered, Becomes, FilterLaw, IsLineStep, LineStep, Reply, Send, fate_by, filtered, long_line, refused_line, state_then, step_for, told_of}
-use Rattle.unftp_control_proxy.specs.declared.driver.Step.{Step as RustStep}
-use Rattle.unftp_control_proxy.specs.declared.driver.Step.TheVariants as step
+use Rattle.unftp_control_proxy.specs.declared.driver.Action.{Action as RustStep}
+use Rattle.unftp_control_proxy.specs.declared.driver.Action.TheVariants as step
 use Rattle.unftp_control_proxy.specs.declared.errors.SendError.{SendError}
 use Rattle.unftp_control_proxy.specs.declared.errors.SendError.TheVariants as send
 use Rattle.unftp_control_proxy.proofs.CallLemmas.{decides, found_only}
@@ -123,7 +123,7 @@ step_longer (Reply reply) step.Appended before after is = absurd is
 -- What was appended is sent.
 pub sent_becomes : (before later : ProxyState) (length : ℕ) (out out' : Bytes)
     → MayBeSent before.limits.sent (drop length out)
-    → later ≡ decided before (SentAs (drop length out)) → out' ≡ out
+    → later ≡ after_fate before (SentAs (drop length out)) → out' ≡ out
     → Becomes (fate_by before.limits.sent (Send (drop length out))) before (take length out) out'
     later
 sent_becomes before later length out out' may is same =
@@ -144,7 +144,7 @@ pub refused_becomes : {T E : Type 0} (result : Result T E) (error : SendError)
     → OnOk result (Becomes fate before out out' later)
 refused_becomes (Ok done) error before before' later {out} {out'} becomes same out_is some refused =
     subst (λ fate. Becomes fate before out out' later) (sym (refused some)) (record {
-      later_is = subst (λ before. later ≡ decided before (told_of error)) same becomes.later_is;
+      later_is = subst (λ before. later ≡ after_fate before (told_of error)) same becomes.later_is;
       appended = out_is ∙ sym (append-nil out) ∙ ap (λ bytes. out ++ bytes) becomes.appended;
       single = becomes.single;
     })
@@ -152,7 +152,7 @@ refused_becomes (Err _) error before before' later becomes same out_is some refu
 
 -- A reply that is an answer becomes it.
 pub answer_becomes : (before later : ProxyState) (reply : FtpReply) → is_answer reply ≡ true
-    → later ≡ decided before (AnsweredBy reply)
+    → later ≡ after_fate before (AnsweredBy reply)
     → Becomes (fate_by before.limits.sent (Reply reply)) before [] [] later
 answer_becomes before later reply single is =
     let same : fate_by before.limits.sent (Reply reply) ≡ AnsweredBy reply = rw single refl in

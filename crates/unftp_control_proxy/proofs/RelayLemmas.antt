@@ -12,7 +12,7 @@ use Rattle.unftp_control_client.specs.declared.dialogue.To.TheVariants.{Greeting
 use Rattle.unftp_control_serve.specs.ClientLines.{first_client_line, front_line}
 use Rattle.unftp_control_serve.specs.Decoder.{pushed}
 use Rattle.unftp_control_proxy.specs.ProxyCalls.{AnsweredBy, Fate, GivesAnswer, GivesNext, IsGiven, IsLookedFor, IsUnasked, PassesReply, ProxyState, ReplyBytes, SentAs, waits}
-use Rattle.unftp_control_proxy.specs.Traffic.{AreAsTheyCame, IsTraffic, client_lines, client_piece, client_replies, fates_in, fates_of, given_in, held_fate, joined, nothing_passed, one_answer, one_line, one_reply, passed_by_step, passed_in, sends_for, sent_by, server_piece}
+use Rattle.unftp_control_proxy.specs.Traffic.{AreAsTheyCame, IsTraffic, client_lines, client_piece, client_replies, fates_in, fates_of, given_in, held_fate, joined, nothing_passed, one_answer, one_line, one_reply, passed_by_step, passed_in, sends_for, all_sent, server_piece}
 use Rattle.unftp_control_proxy.specs.Filtering.{AreFiltered, FilterLaw, IsAsked, filtered}
 use Rattle.unftp_control_proxy.specs.Relaying.{IsEnd, IsSettled, RelayState, Relays, RelaysInPart, after_written, new_relay}
 use Rattle.unftp_control_proxy.specs.declared.proxy.Limits.{Limits}
@@ -248,8 +248,9 @@ module _ {S : Type 0} (law : FilterLaw S) where
         decided_so law (Some limits.line) limits.sent s all.filter relays.traffic.lines relays.filtered
 
     pub sent_by_law : lines_of all.to_server
-        ≡ sent_by (filtered law (Some limits.line) limits.sent s (client_lines relays.traffic.lines))
-    sent_by_law = ap lines_of relays.to_server ∙ sends_only relays.passed ∙ ap sent_by lines_are
+        ≡ all_sent (filtered law (Some limits.line) limits.sent s
+        (client_lines relays.traffic.lines))
+    sent_by_law = ap lines_of relays.to_server ∙ sends_only relays.passed ∙ ap all_sent lines_are
 
     pub given_by_law : (all.to_client ≡ given_in relays.traffic.steps)
         × AreExchanges Greeting (client_replies relays.traffic.steps)

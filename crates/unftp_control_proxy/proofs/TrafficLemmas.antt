@@ -9,14 +9,14 @@ use Rattle.unftp_control_defs.specs.Bytes.{Bytes}
 use Rattle.unftp_control_defs.specs.Events.{event_for, event_of, events}
 use Rattle.unftp_control_defs.specs.Lines.{IsLine, lines_of}
 use Rattle.unftp_control_defs.proofs.LineLemmas.{lines_of-concat}
-use Rattle.unftp_control_client.specs.Dialogue.{at_start, commands_owed}
+use Rattle.unftp_control_client.specs.Dialogue.{new_dialogue, commands_owed}
 use Rattle.unftp_control_client.specs.ForwardingSteps.{AreForwardingSteps, ForwardingStep, IsGreeted, is_line}
 use Rattle.unftp_control_client.specs.Steps.{AreExchanges, is_final}
 use Rattle.unftp_control_client.specs.declared.dialogue.Dialogue.{Dialogue}
 use Rattle.unftp_control_client.specs.declared.dialogue.To.TheVariants.{Greeting}
 use Rattle.unftp_control_client.proofs.ForwardingLemmas.{each_complete, given-exchanges}
 use Rattle.unftp_control_proxy.specs.ProxyCalls.{AnsweredBy, Fate, ProxyState, SentAs, new_proxy}
-use Rattle.unftp_control_proxy.specs.Traffic.{AreAsTheyCame, ChangesNothing, DecidedLine, GivesOwn, GivesReply, IsDecidedLine, IsPassedReply, IsSingle, IsTraffic, KeepsLine, SendsLine, Step, Traffic, bytes_that_came, client_lines, client_replies, fates_in, fates_of, fate_by_step, forwarding_step, forwarding_steps, given_by_step, given_in, held_fate, joined, nothing_passed, passed_by_step, passed_in, sent_by, sent_for}
+use Rattle.unftp_control_proxy.specs.Traffic.{AreAsTheyCame, ChangesNothing, DecidedLine, GivesOwn, GivesReply, IsDecidedLine, IsPassedReply, IsSingle, IsTraffic, KeepsLine, SendsLine, ProxyStep, Traffic, bytes_that_came, client_lines, client_replies, fates_in, fates_of, fate_by_step, forwarding_step, forwarding_steps, given_by_step, given_in, held_fate, joined, nothing_passed, passed_by_step, passed_in, all_sent, sent_for}
 use Rattle.unftp_control_proxy.specs.declared.proxy.Limits.{Limits}
 
 -- ---- one after the other
@@ -83,7 +83,7 @@ module _ {before middle later : ProxyState} {first second : Traffic}
     replies = subst (AllByRecursion IsPassedReply) (sym passed_is) (all-append IsPassedReply
         (passed_in first.steps) (passed_in second.steps) one.replies two.replies);
     to_server = (λ i. one.to_server i ++ two.to_server i)
-        ∙ sym (concat-append (sent_by first.lines) (sent_by second.lines))
+        ∙ sym (concat-append (all_sent first.lines) (all_sent second.lines))
         ∙ ap concat (sym (flat_map-append _ first.lines second.lines));
     to_client = (λ i. one.to_client i ++ two.to_client i)
         ∙ sym (flat_map-append given_by_step first.steps second.steps);
@@ -109,7 +109,7 @@ fates-counted : (lines : List DecidedLine) → length (fates_of lines) ≡ lengt
 fates-counted [] = refl
 fates-counted (decided ∷ lines) = ap suc (fates-counted lines)
 
-lines-counted : (steps : List Step)
+lines-counted : (steps : List ProxyStep)
     → length (filter is_line (forwarding_steps steps)) ≡ length (fates_in steps)
 lines-counted [] = refl
 lines-counted (SendsLine line ∷ steps) = ap suc (lines-counted steps)
@@ -120,13 +120,14 @@ module _ {limits : Limits} {later : ProxyState} {traffic : Traffic}
     (is : IsTraffic (new_proxy limits) traffic later) where
   pub are_exchanges : AreExchanges Greeting (client_replies traffic.steps)
   are_exchanges =
-      given-exchanges 0 (forwarding_steps traffic.steps) at_start later.dialogue refl is.steps
+      given-exchanges 0 (forwarding_steps traffic.steps) new_dialogue later.dialogue refl is.steps
 
   pub all_complete : IsGreeted later.dialogue.answered → commands_owed later.dialogue ≡ 0
       → later.answer ≡ None
       → length (filter is_final (client_replies traffic.steps)) ≡ suc (length traffic.lines)
   all_complete greeted none_owed none_held =
-      let counted = each_complete at_start later.dialogue (forwarding_steps traffic.steps) refl refl
+      let counted = each_complete new_dialogue later.dialogue
+          (forwarding_steps traffic.steps) refl refl
       is.steps greeted none_owed in
       let fates : fates_of traffic.lines ≡ fates_in traffic.steps = is.fates
       ∙ ap (λ answer. fates_in traffic.steps ++ held_fate answer) none_held
@@ -137,12 +138,12 @@ module _ {limits : Limits} {later : ProxyState} {traffic : Traffic}
 -- ---- what the server is sent
 
 sent-lines : (lines : List DecidedLine) → AllByRecursion IsDecidedLine lines
-    → AllByRecursion IsLine (sent_by lines)
+    → AllByRecursion IsLine (all_sent lines)
 sent-lines [] all = tt
 sent-lines (decided ∷ lines) all = by_fate decided.fate all.0.1 (sent-lines lines all.1)
   where
-    by_fate : (fate : Fate) → IsSingle fate → AllByRecursion IsLine (sent_by lines)
-        → AllByRecursion IsLine (sent_for fate ++ sent_by lines)
+    by_fate : (fate : Fate) → IsSingle fate → AllByRecursion IsLine (all_sent lines)
+        → AllByRecursion IsLine (sent_for fate ++ all_sent lines)
     by_fate (SentAs line) one others = (one, others)
     by_fate (AnsweredBy reply) one others = others
 
@@ -158,9 +159,9 @@ lines_of-lines lines all = ap lines_of (sym (append-nil (concat lines)))
     ∙ (lines_of-concat lines [] all tt).0
 
 module _ {before later : ProxyState} {traffic : Traffic} (is : IsTraffic before traffic later) where
-  pub sends_only : lines_of traffic.to_server ≡ sent_by traffic.lines
+  pub sends_only : lines_of traffic.to_server ≡ all_sent traffic.lines
   sends_only = ap lines_of is.to_server
-      ∙ lines_of-lines (sent_by traffic.lines) (sent-lines traffic.lines is.lines)
+      ∙ lines_of-lines (all_sent traffic.lines) (sent-lines traffic.lines is.lines)
 
   -- ---- where nothing is changed
 
@@ -174,13 +175,13 @@ module _ {before later : ProxyState} {traffic : Traffic} (is : IsTraffic before 
       where
         each : (lines : List DecidedLine)
             → AllByRecursion (λ decided. KeepsLine decided.line decided.fate) lines
-            → map (event_for None) (sent_by lines) ≡ map (event_for None) (client_lines lines)
+            → map (event_for None) (all_sent lines) ≡ map (event_for None) (client_lines lines)
         each [] all = refl
         each (decided ∷ lines) all = by_fate decided.fate all.0 (each lines all.1)
           where
             by_fate : (fate : Fate) → KeepsLine decided.line fate
-                → map (event_for None) (sent_by lines) ≡ map (event_for None) (client_lines lines)
-                → map (event_for None) (sent_for fate ++ sent_by lines)
+                → map (event_for None) (all_sent lines) ≡ map (event_for None) (client_lines lines)
+                → map (event_for None) (sent_for fate ++ all_sent lines)
                 ≡ event_for None decided.line ∷ map (event_for None) (client_lines lines)
             by_fate (SentAs line) means others = λ i. event_of (means i) ∷ others i
             by_fate (AnsweredBy reply) means others = absurd means
@@ -205,7 +206,7 @@ first-sent [] others all = tt
 first-sent (fate ∷ fates) others all = (all.0, first-sent fates others all.1)
 
 -- then the replies are all that is given
-given-as-came : (steps : List Step) → AreSent (fates_in steps)
+given-as-came : (steps : List ProxyStep) → AreSent (fates_in steps)
     → AreAsTheyCame (passed_in steps) → given_in steps ≡ bytes_that_came (passed_in steps)
 given-as-came [] sent same = refl
 given-as-came (SendsLine line ∷ steps) sent same = given-as-came steps sent.1 same

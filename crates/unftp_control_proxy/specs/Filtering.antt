@@ -13,10 +13,10 @@ use Rattle.unftp_control_serve.specs.ClientLines.{first_client_line}
 use Rattle.unftp_control_serve.specs.declared.decoder.ClientLine.TheVariants.{Complete}
 use Rattle.unftp_control_write.specs.ClearLines.{is_clear}
 use Rattle.unftp_control_proxy.specs.ProxyAnswers.{answer_reply, is_answer, long_reply, refused_reply}
-use Rattle.unftp_control_proxy.specs.ProxyCalls.{AnsweredBy, Fate, ProxyState, SentAs, decided, waits}
+use Rattle.unftp_control_proxy.specs.ProxyCalls.{AnsweredBy, Fate, ProxyState, SentAs, after_fate, waits}
 use Rattle.unftp_control_proxy.specs.Traffic.{DecidedLine, IsSingle, sent_for}
-use Rattle.unftp_control_proxy.specs.declared.driver.Step.{Step as RustStep}
-use Rattle.unftp_control_proxy.specs.declared.driver.Step.TheVariants as step
+use Rattle.unftp_control_proxy.specs.declared.driver.Action.{Action as RustStep}
+use Rattle.unftp_control_proxy.specs.declared.driver.Action.TheVariants as step
 use Rattle.unftp_control_proxy.specs.declared.filter.Verdict.{Verdict}
 use Rattle.unftp_control_proxy.specs.declared.filter.Verdict.TheVariants as verdict
 use Rattle.unftp_control_proxy.specs.declared.errors.SendError.{SendError}
@@ -54,7 +54,7 @@ pub data LineStep : Type 0 where
   Send : Bytes → LineStep
   Reply : FtpReply → LineStep
 
-abbrev pub forward_or_refuse : Bytes → FtpCommand.Answer → LineStep
+abbrev pub forward_or_refuse : Bytes → FtpCommand.Outcome → LineStep
 forward_or_refuse line (Ok command) = Send (forwarded_line line command)
 forward_or_refuse line (Err refusal) = Reply refused_reply
 
@@ -115,6 +115,6 @@ pub record IsAsked (proxy : ProxyState) : Type 0 where
 -- The client's line is taken, with this fate.
 pub record Becomes (fate : Fate) (before : ProxyState) (sent sent' : Bytes)
     (later : ProxyState) : Type 0 where
-  pub later_is : later ≡ decided before fate
+  pub later_is : later ≡ after_fate before fate
   pub appended : sent' ≡ sent ++ concat (sent_for fate)
   pub single : IsSingle fate

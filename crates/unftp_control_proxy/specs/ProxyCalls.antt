@@ -19,7 +19,7 @@ use Rattle.unftp_control_write.specs.ClearLines.{is_clear}
 use Rattle.unftp_control_write.specs.Forwarding.{IsForwardError, LacksRoomFor}
 use Rattle.unftp_control_write.specs.declared.forwarding.ForwardError.{ForwardError}
 use Rattle.unftp_control_write.specs.declared.forwarding.ForwardError.TheVariants as forward
-use Rattle.unftp_control_client.specs.Dialogue.{after_line, after_reply, at_start, awaits_tls, commands_owed, owes_reply}
+use Rattle.unftp_control_client.specs.Dialogue.{after_command, after_reply, new_dialogue, awaits_tls, commands_owed, owes_reply}
 use Rattle.unftp_control_client.specs.declared.dialogue.Dialogue.{Dialogue}
 use Rattle.unftp_control_proxy.specs.ProxyAnswers.{IsNoAnswer, IsReplyOf, answer_reply, is_answer}
 use Rattle.unftp_control_proxy.specs.declared.answer.Answer.{Answer}
@@ -55,7 +55,7 @@ abbrev pub new_proxy : Limits → ProxyState
 new_proxy limits = record {
   client = no_bytes (Some limits.line);
   server = no_reply_bytes (Some limits.reply);
-  dialogue = at_start;
+  dialogue = new_dialogue;
   answer = None;
   limits = limits;
 }
@@ -97,12 +97,12 @@ pub data Fate : Type 0 where
   AnsweredBy : FtpReply → Fate
 
 -- The line is taken, with this fate.
-abbrev pub decided : ProxyState → Fate → ProxyState
-decided proxy (SentAs line) = record proxy {
+abbrev pub after_fate : ProxyState → Fate → ProxyState
+after_fate proxy (SentAs line) = record proxy {
   client = without_line proxy.client;
-  dialogue = after_line line proxy.dialogue;
+  dialogue = after_command line proxy.dialogue;
 }
-decided proxy (AnsweredBy reply) = record proxy {
+after_fate proxy (AnsweredBy reply) = record proxy {
   client = without_line proxy.client;
   answer = Some reply;
 }

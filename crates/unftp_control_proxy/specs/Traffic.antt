@@ -24,16 +24,16 @@ pub record PassedReply : Type 0 where
   pub given : ReplyBytes
 
 -- A line is sent to the server; or the client is given a reply of the server, or the proxy's own.
-pub data Step : Type 0 where
-  SendsLine : Bytes → Step
-  GivesReply : PassedReply → Step
-  GivesOwn : FtpReply → Step
+pub data ProxyStep : Type 0 where
+  SendsLine : Bytes → ProxyStep
+  GivesReply : PassedReply → ProxyStep
+  GivesOwn : FtpReply → ProxyStep
 
 pub record Traffic : Type 0 where
   pub from_client : Bytes
   pub from_server : Bytes
   pub lines : List DecidedLine
-  pub steps : List Step
+  pub steps : List ProxyStep
   pub to_client : Bytes
   pub to_server : Bytes
 
@@ -65,13 +65,13 @@ abbrev pub sent_for : Fate → List Bytes
 sent_for (SentAs line) = line ∷ []
 sent_for (AnsweredBy reply) = []
 
-abbrev pub sends_for : Fate → List Step
+abbrev pub sends_for : Fate → List ProxyStep
 sends_for (SentAs line) = SendsLine line ∷ []
 sends_for (AnsweredBy reply) = []
 
 -- and for all of them
-abbrev pub sent_by : List DecidedLine → List Bytes
-sent_by lines = flat_map (λ decided. sent_for decided.fate) lines
+abbrev pub all_sent : List DecidedLine → List Bytes
+all_sent lines = flat_map (λ decided. sent_for decided.fate) lines
 
 abbrev pub client_lines : List DecidedLine → List Bytes
 client_lines lines = map (λ decided. decided.line) lines
@@ -90,12 +90,12 @@ IsDecidedLine decided = IsLine decided.line × IsSingle decided.fate
 -- ---- of what is given
 
 -- the line that a step is of, as it was decided, if it is of one
-abbrev pub fate_by_step : Step → Option Fate
+abbrev pub fate_by_step : ProxyStep → Option Fate
 fate_by_step (SendsLine line) = Some (SentAs line)
 fate_by_step (GivesReply passed) = None
 fate_by_step (GivesOwn reply) = Some (AnsweredBy reply)
 
-abbrev pub fates_in : List Step → List Fate
+abbrev pub fates_in : List ProxyStep → List Fate
 fates_in steps = filter_map fate_by_step steps
 
 -- the answer that is not given yet
@@ -104,23 +104,23 @@ held_fate None = []
 held_fate (Some reply) = AnsweredBy reply ∷ []
 
 -- the server's replies
-abbrev pub passed_by_step : Step → Option PassedReply
+abbrev pub passed_by_step : ProxyStep → Option PassedReply
 passed_by_step (GivesReply passed) = Some passed
 passed_by_step _ = None
 
-abbrev pub passed_in : List Step → List PassedReply
+abbrev pub passed_in : List ProxyStep → List PassedReply
 passed_in steps = filter_map passed_by_step steps
 
 abbrev pub bytes_that_came : List PassedReply → Bytes
 bytes_that_came replies = flat_map (λ passed. passed.came.bytes) replies
 
 -- what the client is given by a step
-abbrev pub given_by_step : Step → Bytes
+abbrev pub given_by_step : ProxyStep → Bytes
 given_by_step (SendsLine line) = []
 given_by_step (GivesReply passed) = passed.given.bytes
 given_by_step (GivesOwn reply) = encoded reply
 
-abbrev pub given_in : List Step → Bytes
+abbrev pub given_in : List ProxyStep → Bytes
 given_in steps = flat_map given_by_step steps
 
 -- both are one reply, of the same code
@@ -130,16 +130,16 @@ IsPassedReply passed = IsWholeReply passed.came × IsWholeReply passed.given
 
 -- As steps of a proxy over its dialogue with the server; and the replies that its client is given,
 -- each with what it is to.
-abbrev pub forwarding_step : Step → ForwardingStep
+abbrev pub forwarding_step : ProxyStep → ForwardingStep
 forwarding_step (SendsLine line) = Forwarded line
 forwarding_step (GivesReply passed) =
     Passed (record { to = passed.to; reply = (passed.given.code, passed.given.lines) })
 forwarding_step (GivesOwn reply) = Answered (as_read reply)
 
-abbrev pub forwarding_steps : List Step → List ForwardingStep
+abbrev pub forwarding_steps : List ProxyStep → List ForwardingStep
 forwarding_steps steps = map forwarding_step steps
 
-abbrev pub client_replies : List Step → List ReplyTo
+abbrev pub client_replies : List ProxyStep → List ReplyTo
 client_replies steps = replies_given 0 0 (forwarding_steps steps)
 
 -- ---- one piece of either side, one line, one step
@@ -180,7 +180,7 @@ pub record IsTraffic (before : ProxyState) (traffic : Traffic) (later : ProxySta
   pub replies : AllByRecursion IsPassedReply (passed_in traffic.steps)
   -- the server is sent the lines that were decided for it, and the client given its replies and the
   -- proxy's own; nothing else is sent
-  pub to_server : traffic.to_server ≡ concat (sent_by traffic.lines)
+  pub to_server : traffic.to_server ≡ concat (all_sent traffic.lines)
   pub to_client : traffic.to_client ≡ given_in traffic.steps
   -- each line has its fate in turn, but an answer that is not given yet
   pub fates : held_fate before.answer ++ fates_of traffic.lines

@@ -27,7 +27,7 @@ use unftp_control_write::forward_parts;
 
 /// What is to be done with a line.
 #[derive(Drop)]
-pub(crate) enum Step {
+pub(crate) enum Action {
     /// What was appended is sent for it.
     Appended,
     /// It is answered so.
@@ -40,7 +40,7 @@ fn append_for(
     parts: &Result<Parts<'_>, ParseErrorKind>,
     verdict: Verdict,
     to_server: &mut Vec<u8>,
-) -> Result<Step, AllocError>
+) -> Result<Action, AllocError>
     requires line { IsLine line.now }
     requires parts { PartsTo (outcome line.now) parts.now }
     ensures ok { IfOk result (λ step. IsLineStep (step_for (decision_of verdict) line.now) step
@@ -55,7 +55,7 @@ fn append_for(
             drop(other);
             step
         }
-        Verdict::Answer(reply) => Ok(Step::Answer(Answer::Reply(reply))),
+        Verdict::Answer(reply) => Ok(Action::Answer(Answer::Reply(reply))),
     }
 }
 
@@ -64,7 +64,7 @@ fn append_forwarded(
     line: &[u8],
     parts: &Result<Parts<'_>, ParseErrorKind>,
     to_server: &mut Vec<u8>,
-) -> Result<Step, AllocError>
+) -> Result<Action, AllocError>
     requires line { IsLine line.now }
     requires parts { PartsTo (outcome line.now) parts.now }
     ensures ok { IfOk result (λ step. IsLineStep (forward_or_refuse line.now (outcome line.now))
@@ -74,22 +74,22 @@ fn append_forwarded(
 {
     match parts {
         Ok(parts) => match forward_parts(line, *parts, to_server) {
-            Ok(()) => Ok(Step::Appended),
+            Ok(()) => Ok(Action::Appended),
             Err(_) => Err(AllocError),
         },
-        Err(_) => Ok(Step::Answer(Answer::NotUnderstood)),
+        Err(_) => Ok(Action::Answer(Answer::NotUnderstood)),
     }
 }
 
 /// Appends these bytes.
-fn append(bytes: &[u8], to_server: &mut Vec<u8>) -> Result<Step, AllocError>
+fn append(bytes: &[u8], to_server: &mut Vec<u8>) -> Result<Action, AllocError>
     ensures ok { IfOk result (λ step. IsLineStep (Send bytes.now) step
         to_server.old.items to_server.new.items) }
     ensures err { OnErr result (to_server.new.items ≡ to_server.old.items) }
     ensures memory { OnErr result (LacksRoom to_server.old bytes.now) }
 {
     to_server.extend_from_slice(bytes)?;
-    Ok(Step::Appended)
+    Ok(Action::Appended)
 }
 
 /// Asks the filter of the line, and appends what is to be sent for it, if anything is.
@@ -98,7 +98,7 @@ fn ask<F: Filter>(
     filter: &mut F,
     line: &[u8],
     to_server: &mut Vec<u8>,
-) -> Result<Step, AllocError>
+) -> Result<Action, AllocError>
     requires { IsLine line.now }
     ensures ok { IfOk result (λ step.
         IsLineStep (step_for (F.law.says (F.state filter.old) line.now) line.now) step
@@ -174,7 +174,7 @@ fn answer_or_refuse(proxy: &mut Proxy, answer: Answer)
 /// Does with the line what is to be done, where what was appended for it begins at `length`.
 fn carry_out(
     proxy: &mut Proxy,
-    step: Step,
+    step: Action,
     length: usize,
     to_server: &mut Vec<u8>,
 ) -> Result<(), AllocError>
@@ -189,8 +189,8 @@ fn carry_out(
     ensures full { OnErr result (IsFull proxy.old.dialogue) }
 {
     match step {
-        Step::Appended => send_or_refuse(proxy, length, to_server),
-        Step::Answer(answer) => {
+        Action::Appended => send_or_refuse(proxy, length, to_server),
+        Action::Answer(answer) => {
             answer_or_refuse(proxy, answer);
             Ok(())
         }

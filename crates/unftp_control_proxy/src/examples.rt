@@ -10,13 +10,13 @@ ghost use Rattle.unftp_control_message.specs.declared.reply.error.parse_error.Pa
 ghost use Rattle.unftp_control_message.specs.declared.reply.error.parse_error.ParseErrorKind.TheVariants.{InvalidCommand};
 ghost use Rattle.unftp_control_read.specs.ReplyDecoding.{pending_replies};
 ghost use Rattle.unftp_control_write.specs.ClearLines.{is_clear};
-ghost use Rattle.unftp_control_client.specs.Dialogue.{after_line, after_reply, at_start, awaits_tls, owes_reply};
+ghost use Rattle.unftp_control_client.specs.Dialogue.{after_command, after_reply, new_dialogue, awaits_tls, owes_reply};
 ghost use Rattle.unftp_control_client.specs.declared.dialogue.To.TheVariants.{Command, Greeting};
 ghost use Rattle.unftp_control_proxy.specs.ProxyAnswers.{IsFinalReply, is_answer, is_final, long_reply, refused_reply};
 ghost use Rattle.unftp_control_serve.specs.ClientLines.{after_front_line, first_client_line, front_line, unless_too_long};
 ghost use Rattle.unftp_control_serve.specs.Decoder.{found_as, line_in, no_bytes, pushed, without_line};
 ghost use Rattle.unftp_control_serve.specs.declared.decoder.ClientLine.TheVariants as ClientLine;
-ghost use Rattle.unftp_control_proxy.specs.ProxyCalls.{AnsweredBy, Fate, GivesNext, GivesOther, IsDecidable, IsForwardingError, IsGiven, IsReplaceError, IsUnclearError, IsUnsent, MayBeSent, ProxyState, ReplyBytes, SentAs, decided, is_due, new_proxy, server_owes, stops, waits};
+ghost use Rattle.unftp_control_proxy.specs.ProxyCalls.{AnsweredBy, Fate, GivesNext, GivesOther, IsDecidable, IsForwardingError, IsGiven, IsReplaceError, IsUnclearError, IsUnsent, MayBeSent, ProxyState, ReplyBytes, SentAs, after_fate, is_due, new_proxy, server_owes, stops, waits};
 ghost use Rattle.unftp_control_proxy.specs.Traffic.{ChangesNothing, GivesOwn, GivesReply, SendsLine, client_replies, fates_in, given_in, one_line, one_reply};
 ghost use Rattle.unftp_control_proxy.specs.Filtering.{AsItIs, Becomes, Forward, Instead, IsAsked, Reply, Send, fate_by, long_line, refused_line, step_for, told_of};
 ghost use Rattle.unftp_control_proxy.specs.Relaying.{IsEnd, IsSettled};
@@ -44,8 +44,8 @@ pub fn lines_are_clear()
 /// When no line is taken: the greeting is owed, as many replies as may be, an answer is held, or
 /// AUTH TLS has no reply.
 pub fn proxies_wait()
-    ensures greeting { server_owes at_start ≡ 1 }
-    ensures full { (proxy : ProxyState) → proxy.limits.waiting ≡ 1 → proxy.dialogue ≡ at_start
+    ensures greeting { server_owes new_dialogue ≡ 1 }
+    ensures full { (proxy : ProxyState) → proxy.limits.waiting ≡ 1 → proxy.dialogue ≡ new_dialogue
         → waits proxy ≡ true }
     ensures goes_on { (limits : RustLimits)
         → waits (new_proxy (record limits { waiting = 2 })) ≡ false }
@@ -53,12 +53,12 @@ pub fn proxies_wait()
         → waits (record (new_proxy (record limits { waiting = 2 })) {
           answer = Some refused_reply;
         }) ≡ true }
-    ensures asks { awaits_tls (after_line (codes "AUTH TLS\r\n") at_start) ≡ true }
+    ensures asks { awaits_tls (after_command (codes "AUTH TLS\r\n") new_dialogue) ≡ true }
     ensures greeted { awaits_tls (after_reply
-        (after_line (codes "AUTH TLS\r\n") at_start) 220) ≡ true }
+        (after_command (codes "AUTH TLS\r\n") new_dialogue) 220) ≡ true }
     ensures replied { awaits_tls (after_reply (after_reply
-        (after_line (codes "AUTH TLS\r\n") at_start) 220) 502) ≡ false }
-    ensures asks_nothing { awaits_tls (after_line (codes "NOOP\r\n") at_start) ≡ false }
+        (after_command (codes "AUTH TLS\r\n") new_dialogue) 220) 502) ≡ false }
+    ensures asks_nothing { awaits_tls (after_command (codes "NOOP\r\n") new_dialogue) ≡ false }
 {}
 
 /// An answer is due once no reply is owed, the greeting among them; and it is given then.
@@ -67,11 +67,11 @@ pub fn answers_wait()
         → is_due (record (new_proxy limits) { answer = Some refused_reply }) ≡ false }
     ensures greeted { (limits : RustLimits) → is_due (record (new_proxy limits) {
       answer = Some refused_reply;
-      dialogue = after_reply at_start 220;
+      dialogue = after_reply new_dialogue 220;
     }) ≡ true }
-    ensures preliminary { owes_reply (after_reply at_start 120) ≡ true }
+    ensures preliminary { owes_reply (after_reply new_dialogue 120) ≡ true }
     ensures none { (limits : RustLimits)
-        → is_due (record (new_proxy limits) { dialogue = after_reply at_start 220 }) ≡ false }
+        → is_due (record (new_proxy limits) { dialogue = after_reply new_dialogue 220 }) ≡ false }
     ensures in_order { client_replies (SendsLine (codes "NOOP\r\n")
         ∷ GivesReply (record {
           to = Command 0;
@@ -126,7 +126,7 @@ pub fn errors_have_reasons()
         → ¬ IsForwardingError proxy (codes "NOOP\r\n") out (SendError.Refused kind) }
     ensures refused_first { (proxy : ProxyState) (out : Vec ℕ)
         → ¬ IsForwardingError proxy (codes "NOOP x\r\n") out SendError.OutOfMemory }
-    ensures owed { (proxy : ProxyState) (out : Vec ℕ) → proxy.dialogue ≡ at_start
+    ensures owed { (proxy : ProxyState) (out : Vec ℕ) → proxy.dialogue ≡ new_dialogue
         → ¬ IsReplaceError proxy [] out ReplaceError.NotOwed }
     ensures short { (proxy : ProxyState) (out : Vec ℕ) → proxy.limits.sent ≡ 6
         → ¬ IsUnclearError proxy (codes "NOOP\r\n") out SendError.TooLong }
@@ -140,7 +140,7 @@ pub fn replies_are_given()
         record (new_proxy limits) { server = pending_replies None (codes "220 a\r\n2") 8 8 } in
         GivesNext before (Some (Passed 220)) [] (codes "220 a\r\n") (record before {
           server = pending_replies None (codes "2") 8 8;
-          dialogue = after_reply at_start 220;
+          dialogue = after_reply new_dialogue 220;
         }) }
     ensures dropped { (before later : ProxyState)
         → ¬ GivesNext before (Some (Passed 200)) [] [] later }
@@ -153,7 +153,7 @@ pub fn replies_are_given()
         record (new_proxy limits) { server = pending_replies None (codes "220 a\r\n") 7 7 } in
         GivesOther before (codes "220 b\r\n") [] (codes "220 b\r\n") (record before {
           server = pending_replies None [] 7 7;
-          dialogue = after_reply at_start 220;
+          dialogue = after_reply new_dialogue 220;
         }) }
     ensures other_code { (limits : RustLimits) (later : ProxyState) → let before : ProxyState =
         record (new_proxy limits) { server = pending_replies None (codes "220 a\r\n") 7 7 } in
@@ -226,7 +226,7 @@ pub fn fates_are_told()
     ensures too_long { told_of SendError.TooLong ≡ long_line }
     ensures unclear { told_of SendError.Unclear ≡ refused_line }
     ensures taken { (proxy : ProxyState) → Becomes (SentAs (codes "NOOP\r\n")) proxy
-        (codes "A\r\n") (codes "A\r\nNOOP\r\n") (decided proxy (SentAs (codes "NOOP\r\n"))) }
+        (codes "A\r\n") (codes "A\r\nNOOP\r\n") (after_fate proxy (SentAs (codes "NOOP\r\n"))) }
     ensures not_sent { (proxy later : ProxyState)
         → ¬ Becomes (SentAs (codes "NOOP\r\n")) proxy [] [] later }
     ensures sent_too { (proxy later : ProxyState)
@@ -235,7 +235,7 @@ pub fn fates_are_told()
 
 /// When a client was given all that it can be given, and when a relay ends.
 pub fn relays_settle()
-    ensures owed { (proxy : ProxyState) → proxy.dialogue ≡ at_start
+    ensures owed { (proxy : ProxyState) → proxy.dialogue ≡ new_dialogue
         → ¬ IsEnd proxy (End.Unasked 421) }
     ensures not_given { (proxy : ProxyState) → is_due proxy ≡ true → ¬ IsGiven proxy }
     ensures line_left { (proxy : ProxyState) → waits proxy ≡ false
@@ -250,9 +250,9 @@ pub fn relays_settle()
         }) }
     ensures waiting { (proxy : ProxyState) → waits proxy ≡ true → ¬ IsAsked proxy }
     ensures refused { (proxy : ProxyState) → proxy.dialogue
-        ≡ after_reply (after_line (codes "AUTH TLS\r\n") (after_reply at_start 220)) 502
+        ≡ after_reply (after_command (codes "AUTH TLS\r\n") (after_reply new_dialogue 220)) 502
         → ¬ IsEnd proxy End.Tls }
     ensures agreed { (proxy : ProxyState) → proxy.dialogue
-        ≡ after_reply (after_line (codes "AUTH TLS\r\n") (after_reply at_start 220)) 234
+        ≡ after_reply (after_command (codes "AUTH TLS\r\n") (after_reply new_dialogue 220)) 234
         → IsEnd proxy End.Tls }
 {}

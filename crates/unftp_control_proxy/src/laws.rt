@@ -10,7 +10,7 @@ ghost use Rattle.unftp_control_client.specs.Dialogue.{commands_owed};
 ghost use Rattle.unftp_control_client.specs.Steps.{AreExchanges, is_final};
 ghost use Rattle.unftp_control_client.specs.declared.dialogue.To.TheVariants.{Greeting};
 ghost use Rattle.unftp_control_proxy.specs.ProxyCalls.{ProxyState, new_proxy, server_owes};
-ghost use Rattle.unftp_control_proxy.specs.Traffic.{ChangesNothing, DecidedLine, IsDecidedLine, IsPassedReply, IsTraffic, Traffic, bytes_that_came, client_lines, client_replies, fates_in, fates_of, given_in, held_fate, joined, nothing_passed, passed_in, sent_by};
+ghost use Rattle.unftp_control_proxy.specs.Traffic.{ChangesNothing, DecidedLine, IsDecidedLine, IsPassedReply, IsTraffic, Traffic, bytes_that_came, client_lines, client_replies, fates_in, fates_of, given_in, held_fate, joined, nothing_passed, passed_in, all_sent};
 ghost use Rattle.unftp_control_proxy.specs.Filtering.{AreFiltered, filtered};
 ghost use Rattle.unftp_control_proxy.specs.Relaying.{IsSettled, RelayState, Relays, after_written, new_relay};
 ghost use Rattle.unftp_control_proxy.specs.declared.proxy.Limits.{Limits as RustLimits};
@@ -58,7 +58,7 @@ pub fn one_exchange_for_each_line()
 /// to it as a command.
 pub fn nothing_else_is_sent()
     ensures { (before later : ProxyState) (traffic : Traffic) → IsTraffic before traffic later
-        → lines_of traffic.to_server ≡ sent_by traffic.lines }
+        → lines_of traffic.to_server ≡ all_sent traffic.lines }
 {}
 
 /// A proxy that sends for each line one that means the same, and gives each reply as it came,
@@ -105,7 +105,7 @@ pub fn filtered_by_its_law<F: Filter>()
         → IsTraffic (new_proxy limits) traffic later
         → AreFiltered F.law (Some limits.line) limits.sent s traffic.lines s'
         → lines_of traffic.to_server
-        ≡ sent_by (filtered F.law (Some limits.line) limits.sent s (client_lines traffic.lines)) }
+        ≡ all_sent (filtered F.law (Some limits.line) limits.sent s (client_lines traffic.lines)) }
     // Lines that it decides one after the other are decided so in all.
     ensures in_turn { (limit : Option ℕ) (sent_limit : ℕ) (s s' s'' : F.State) (first later : List DecidedLine)
         → AreFiltered F.law limit sent_limit s first s'
@@ -120,7 +120,7 @@ pub fn relayed_by_its_law<F: Filter>()
     ensures sent { (limits : RustLimits) (from_client from_server : Bytes) (s : F.State)
         (all : RelayState F.State)
         (relays : Relays F.law from_client from_server (new_relay limits s) all)
-        → lines_of all.to_server ≡ sent_by (filtered F.law (Some limits.line) limits.sent s
+        → lines_of all.to_server ≡ all_sent (filtered F.law (Some limits.line) limits.sent s
         (client_lines relays.traffic.lines)) }
     // What the client was given and is still to be given are the exchanges of these lines.
     ensures given { (limits : RustLimits) (from_client from_server : Bytes) (s : F.State)

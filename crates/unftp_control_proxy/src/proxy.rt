@@ -9,7 +9,7 @@ ghost use Rattle.unftp_control_client.specs.Dialogue.{after_reply, owes_reply};
 ghost use Rattle.unftp_control_proxy.specs.ProxyAnswers.{IsReplyOf, answer_reply, is_answer};
 ghost use Rattle.unftp_control_serve.specs.ClientLines.{first_client_line};
 ghost use Rattle.unftp_control_serve.specs.Decoder.{found_as, kept_bytes, line_in, pushed, without_line};
-ghost use Rattle.unftp_control_proxy.specs.ProxyCalls.{AnsweredBy, BeginsTls, GivesNext, GivesOther, IsAnswerError, IsAppendedError, IsCheckError, IsDecidable, IsForwardingError, IsFull, IsNextError, IsReplaceError, IsSendError, IsUnclearError, MayBeSent, SentAs, decided, is_due, new_proxy, send_error, server_owes, waits, IsLookedFor};
+ghost use Rattle.unftp_control_proxy.specs.ProxyCalls.{AnsweredBy, BeginsTls, GivesNext, GivesOther, IsAnswerError, IsAppendedError, IsCheckError, IsDecidable, IsForwardingError, IsFull, IsNextError, IsReplaceError, IsSendError, IsUnclearError, MayBeSent, SentAs, after_fate, is_due, new_proxy, send_error, server_owes, waits, IsLookedFor};
 
 use crate::answer::Answer;
 use crate::errors::{ReplaceError, SendError};
@@ -190,7 +190,7 @@ impl Proxy {
     pub fn forward(&mut self, to_server: &mut Vec<u8>) -> Result<(), SendError>
         ensures ok { OnOk result
             (IsForwarded (line_in self.old.client) to_server.old.items to_server.new.items) }
-        ensures decided { OnOk result (self.new ≡ decided self.old
+        ensures decided { OnOk result (self.new ≡ after_fate self.old
             (SentAs (drop (vec_len to_server.old) to_server.new.items))) }
         ensures may { OnOk result (IsDecidable self.old) }
         ensures shown { OnOk result (line_in self.old.client ≢ []) }
@@ -222,7 +222,8 @@ impl Proxy {
     /// send no reply to that, and each later reply would be given to another line. Else as
     /// `forward`.
     pub fn send_as_it_is(&mut self, to_server: &mut Vec<u8>) -> Result<(), SendError>
-        ensures ok { OnOk result (self.new ≡ decided self.old (SentAs (line_in self.old.client))) }
+        ensures ok { OnOk result
+            (self.new ≡ after_fate self.old (SentAs (line_in self.old.client))) }
         ensures may { OnOk result (IsDecidable self.old) }
         ensures appended { OnOk result
             (to_server.new.items ≡ to_server.old.items ++ line_in self.old.client) }
@@ -241,7 +242,7 @@ impl Proxy {
     /// Decides the line: another one is sent in its place, as PORT with another address. Else as
     /// `send_as_it_is`, of that line; `NotALine` where it is not one.
     pub fn replace(&mut self, other: &[u8], to_server: &mut Vec<u8>) -> Result<(), SendError>
-        ensures ok { OnOk result (self.new ≡ decided self.old (SentAs other.now)) }
+        ensures ok { OnOk result (self.new ≡ after_fate self.old (SentAs other.now)) }
         ensures may { OnOk result (IsDecidable self.old) }
         ensures appended { OnOk result (to_server.new.items ≡ to_server.old.items ++ other.now) }
         ensures sent { OnOk result (MayBeSent self.old.limits.sent other.now) }
@@ -260,7 +261,8 @@ impl Proxy {
     ///
     /// Never `Unclear`. Else as `send_as_it_is`.
     pub fn send_unclear(&mut self, to_server: &mut Vec<u8>) -> Result<(), SendError>
-        ensures ok { OnOk result (self.new ≡ decided self.old (SentAs (line_in self.old.client))) }
+        ensures ok { OnOk result
+            (self.new ≡ after_fate self.old (SentAs (line_in self.old.client))) }
         ensures may { OnOk result (IsDecidable self.old) }
         ensures appended { OnOk result
             (to_server.new.items ≡ to_server.old.items ++ line_in self.old.client) }
@@ -291,7 +293,7 @@ impl Proxy {
     pub fn send_appended(&mut self, length: usize, to_server: &mut Vec<u8>) -> Result<(), SendError>
         requires { length ≤ vec_len to_server.old }
         ensures ok { OnOk result
-            (self.new ≡ decided self.old (SentAs (drop length to_server.old.items))) }
+            (self.new ≡ after_fate self.old (SentAs (drop length to_server.old.items))) }
         ensures may { OnOk result (IsDecidable self.old) }
         ensures kept { OnOk result (to_server.new.items ≡ to_server.old.items) }
         ensures sent { OnOk result
@@ -326,7 +328,7 @@ impl Proxy {
         requires found { IsTrue self.old.client.found }
         requires within { length ≤ vec_len to_server.old }
         ensures ok { OnOk result
-            (self.new ≡ decided self.old (SentAs (drop length to_server.old.items))) }
+            (self.new ≡ after_fate self.old (SentAs (drop length to_server.old.items))) }
         ensures kept { OnOk result (to_server.new.items ≡ to_server.old.items) }
         ensures why { IfErr result (λ error. (error ≡ SendError.TooManyCommands)
             × IsFull self.old.dialogue) }
@@ -348,7 +350,8 @@ impl Proxy {
     /// `NotFinal` where another reply to the same line would have to follow, and `NotPlain` where a
     /// client would not read it as one reply. At an error nothing changes.
     pub fn answer(&mut self, answer: Answer) -> Result<(), SendError>
-        ensures ok { OnOk result (self.new ≡ decided self.old (AnsweredBy (answer_reply answer))) }
+        ensures ok { OnOk result
+            (self.new ≡ after_fate self.old (AnsweredBy (answer_reply answer))) }
         ensures may { OnOk result (IsDecidable self.old) }
         ensures single { OnOk result (is_answer (answer_reply answer) ≡ true) }
         ensures why { IfErr result (IsAnswerError self.old (answer_reply answer)) }

@@ -12,7 +12,7 @@ ghost use Rattle.unftp_control_client.specs.Dialogue.{next_to};
 ghost use Rattle.unftp_control_proxy.specs.ProxyAnswers.{is_answer};
 ghost use Rattle.unftp_control_serve.specs.ClientLines.{front_line};
 ghost use Rattle.unftp_control_serve.specs.Decoder.{line_in, pushed};
-ghost use Rattle.unftp_control_proxy.specs.ProxyCalls.{AnsweredBy, GivesAnswer, IsDecidable, IsLookedFor, PassesReply, ProxyState, ReplyBytes, SentAs, decided};
+ghost use Rattle.unftp_control_proxy.specs.ProxyCalls.{AnsweredBy, GivesAnswer, IsDecidable, IsLookedFor, PassesReply, ProxyState, ReplyBytes, SentAs, after_fate};
 ghost use Rattle.unftp_control_proxy.specs.Traffic.{IsTraffic, client_piece, nothing_passed, one_answer, one_line, one_reply, server_piece};
 
 /// What the contract of each call ensures says what passes in it; so with `traffic_is_joined` the
@@ -40,7 +40,7 @@ pub fn lines_are_traffic()
     ensures forward { (before later : ProxyState) (sent sent_later : Bytes)
         → IsDecidable before → line_in before.client ≢ []
         → IsForwarded (line_in before.client) sent sent_later
-        → later ≡ decided before (SentAs (drop (length sent) sent_later))
+        → later ≡ after_fate before (SentAs (drop (length sent) sent_later))
         → (command : FtpCommand) × (outcome (front_line before.client.bytes) ≡ Ok command)
         × (sent_later ≡ sent ++ forwarded_line (front_line before.client.bytes) command)
         × (outcome (forwarded_line (front_line before.client.bytes) command)
@@ -48,11 +48,11 @@ pub fn lines_are_traffic()
         × IsTraffic before (one_line (front_line before.client.bytes)
         (SentAs (forwarded_line (front_line before.client.bytes) command))) later }
     ensures send { (before later : ProxyState) (sent : Bytes) → IsDecidable before → IsLine sent
-        → later ≡ decided before (SentAs sent)
+        → later ≡ after_fate before (SentAs sent)
         → IsTraffic before (one_line (front_line before.client.bytes) (SentAs sent)) later }
     ensures as_it_is { (proxy : ProxyState) → IsDecidable proxy → IsLine (line_in proxy.client)
         → line_in proxy.client ≡ front_line proxy.client.bytes }
     ensures answer { (before later : ProxyState) (reply : FtpReply) → IsDecidable before
-        → is_answer reply ≡ true → later ≡ decided before (AnsweredBy reply)
+        → is_answer reply ≡ true → later ≡ after_fate before (AnsweredBy reply)
         → IsTraffic before (one_line (front_line before.client.bytes) (AnsweredBy reply)) later }
 {}

@@ -5,8 +5,8 @@ use Rattle.unftp_control_defs.specs.ReplyReader.{LacksCrlf, with_crlf}
 use Rattle.unftp_control_defs.specs.ComputedReply.{cuts_of, front_after, front_of, later_lines}
 use Rattle.unftp_control_read.specs.Reading.{ReturnsFound}
 use Rattle.unftp_control_read.specs.declared.search.Search.{Search}
-use Rattle.unftp_control_read.specs.declared.search.Step.{Step}
-use Rattle.unftp_control_read.specs.declared.search.Step.TheVariants.{Ends, GoesOn}
+use Rattle.unftp_control_read.specs.declared.search.SearchStep.{SearchStep}
+use Rattle.unftp_control_read.specs.declared.search.SearchStep.TheVariants.{Ends, GoesOn}
 
 -- there is no CR LF in the first n bytes
 abbrev pub LacksCrlfUpTo : ℕ → Bytes → Type 0
@@ -38,6 +38,6 @@ pub record IsAtLine (bytes : Bytes) (opened : Option ℕ) (line after : Bytes) :
   pub is_line : LacksCrlf line
 
 -- it ends the search, which finds this, or leaves the bytes after it
-abbrev pub Steps : Bytes → Bytes → Step → Type 0
+abbrev pub Steps : Bytes → Bytes → SearchStep → Type 0
 Steps bytes after (Ends found) = ReturnsFound bytes found
 Steps bytes after (GoesOn code) = IsBegun bytes (Some code) after

@@ -21,13 +21,13 @@ pub(crate) struct Search {
 
 /// What one more line does: it ends the search, or the reply of several lines goes on after it.
 #[derive(Drop)]
-enum Step {
+enum SearchStep {
     Ends(FoundReply),
     GoesOn(u16),
 }
 
 /// What this line does, which `after` follows.
-fn pass_line(bytes: &[u8], opened: Option<u16>, line: &[u8], after: &[u8]) -> Step
+fn pass_line(bytes: &[u8], opened: Option<u16>, line: &[u8], after: &[u8]) -> SearchStep
     requires { IsAtLine bytes.now opened line.now after.now }
     ensures steps { Steps bytes.now after.now result }
 {
@@ -35,29 +35,29 @@ fn pass_line(bytes: &[u8], opened: Option<u16>, line: &[u8], after: &[u8]) -> St
         return pass_first(bytes, line, after);
     };
     match last_text(&bytes[..3], line) {
-        None => Step::GoesOn(code),
+        None => SearchStep::GoesOn(code),
         Some(_) => {
             let used = bytes.len() - after.len();
-            Step::Ends(FoundReply::Whole { code, used })
+            SearchStep::Ends(FoundReply::Whole { code, used })
         }
     }
 }
 
 /// What the first line does.
-fn pass_first(bytes: &[u8], line: &[u8], after: &[u8]) -> Step
+fn pass_first(bytes: &[u8], line: &[u8], after: &[u8]) -> SearchStep
     requires { IsAtLine bytes.now None line.now after.now }
     ensures { Steps bytes.now after.now result }
 {
     let Some(opening) = opening_of(line) else {
-        return Step::Ends(FoundReply::Malformed);
+        return SearchStep::Ends(FoundReply::Malformed);
     };
     let code = opening.code;
     match opening.kind {
         AfterCode::One(_) => {
             let used = bytes.len() - after.len();
-            Step::Ends(FoundReply::Whole { code, used })
+            SearchStep::Ends(FoundReply::Whole { code, used })
         }
-        AfterCode::Several(_) => Step::GoesOn(code),
+        AfterCode::Several(_) => SearchStep::GoesOn(code),
     }
 }
 
@@ -90,8 +90,8 @@ impl Search {
         let (_, mut rest) = bytes.split_at(self.line);
         while let Some((line, after)) = next_line(rest, self.searched) {
             match pass_line(bytes, self.opened, line, after) {
-                Step::Ends(found) => return found,
-                Step::GoesOn(code) => {
+                SearchStep::Ends(found) => return found,
+                SearchStep::GoesOn(code) => {
                     *self = Search {
                         opened: Some(code),
                         line: bytes.len() - after.len(),

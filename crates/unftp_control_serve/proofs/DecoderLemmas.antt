@@ -15,7 +15,7 @@ use Rattle.unftp_control_codecs.specs.declared.FirstLine.TheVariants as codec
 use Rattle.unftp_control_codecs.proofs.CallLemmas.{goes_on_keeps}
 use Rattle.unftp_control_codecs.proofs.FirstLineLemmas.{Counts, Finds, counts, finds}
 use Rattle.unftp_control_serve.specs.ClientLines.{after_front_line, first_client_line, front_line, unless_too_long}
-use Rattle.unftp_control_serve.specs.Decoder.{HasNoLine, IsDecoder, IsFirst, MayRunOut, Pending, TakesLine, found_as, is_found, line_after, pending_of, scanned_to, without_line}
+use Rattle.unftp_control_serve.specs.Decoder.{FindsNoLine, IsDecoder, IsFirst, MayRunOut, Pending, TakesLine, found_as, is_found, line_after, pending_of, scanned_to, without_line}
 use Rattle.unftp_control_serve.specs.EventMeaning.{event_meant, refuses_length}
 use Rattle.unftp_control_serve.specs.declared.event.Event.{Event}
 use Rattle.unftp_control_serve.specs.declared.decoder.ClientLine.{ClientLine}
@@ -429,7 +429,7 @@ found_so before {after} {found} is found_is =
 module _ (before middle : Pending) {first : Option ClientLine}
     (first_is : first ≡ first_client_line before.limit (lines_of before.bytes))
     (found : middle ≡ found_as before first middle.scanned) where
-  pub none_there : first ≡ None → HasNoLine before middle
+  pub none_there : first ≡ None → FindsNoLine before middle
   none_there none =
       let is : middle ≡ found_as before None middle.scanned = found
       ∙ ap (λ first. found_as before first middle.scanned) none in record {

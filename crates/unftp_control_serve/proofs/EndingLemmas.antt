@@ -5,22 +5,22 @@ use Rattle.unftp_control_defs.specs.Bytes.{Bytes}
 use Rattle.unftp_control_defs.specs.Events.{FtpEvent, events}
 use Rattle.unftp_control_defs.specs.FtpReply.{FtpReply, encoded}
 use Rattle.unftp_control_defs.specs.Lines.{incomplete_line}
-use Rattle.unftp_control_defs.specs.Run.{SessionLaw, ends_for, last_state, run_for, said, state_after, text_of, turn, unread}
+use Rattle.unftp_control_defs.specs.Run.{SessionLaw, ends_for, last_state, run_for, turn_replies, state_after, text_of, turn, unread}
 use Rattle.unftp_control_defs.proofs.RunLemmas.{drop_lines-append, last_state-append, run-append, state_after-append, text_of-append, unread-append}
 use Rattle.unftp_control_defs.proofs.LineLemmas.{events-append}
 use Rattle.unftp_control_message.specs.ErrorParts.{KindAndSource}
 use Rattle.unftp_control_message.specs.ErrorMeaning.{fault_of}
 use Rattle.unftp_control_serve.specs.Decoder.{FirstMayRunOut}
-use Rattle.unftp_control_serve.specs.Writing.{CutShort, ReplyFailed, Sent}
-use Rattle.unftp_control_serve.specs.Endings.{Snapshot, Cause, Finished, Write, Handler, LineMemory, ReplyMemory, IsCauseOf, EndsAt, AllAnswered, EventFailed, HasGiven, RunAnswered, RunEnded, RunFailed, handler_failures, part_written, text_until, whole_text, write_failures}
+use Rattle.unftp_control_serve.specs.Writing.{CutShort, ReplyFailed, IsSent}
+use Rattle.unftp_control_serve.specs.Endings.{Snapshot, Cause, Finished, Write, Handler, LineMemory, ReplyMemory, IsCauseOf, EndsAt, AllAnswered, EventFailed, HasAnswered, RunAnswered, RunEnded, RunFailed, handler_failures, part_written, text_until, whole_text, write_failures}
 use Rattle.unftp_control_serve.specs.declared.error.ServeError.{ServeError}
 use Rattle.unftp_control_serve.specs.declared.error.ServeError.TheVariants as error
-use Rattle.unftp_control_serve.proofs.SendLemmas.{HasWritten-nothing, HasWritten-then, Flushed-then}
+use Rattle.unftp_control_serve.proofs.SendLemmas.{HasWritten-nothing, HasWritten-then, IsFlushed-then}
 
 -- What is given one after the other.
 module _ {S : Type 0} where
-  pub HasGiven-nothing : (m : Snapshot S) → HasGiven [] Finished m m
-  HasGiven-nothing m = record {
+  pub HasAnswered-nothing : (m : Snapshot S) → HasAnswered [] Finished m m
+  HasAnswered-nothing m = record {
     written = HasWritten-nothing m.output;
     flushed = omega arith;
     write_failed = omega arith;
@@ -28,11 +28,11 @@ module _ {S : Type 0} where
   }
 
   -- nothing is written
-  pub HasGiven-silent : {n k : Snapshot S} (cause : Cause) → write_failures cause ≡ 0
+  pub HasAnswered-silent : {n k : Snapshot S} (cause : Cause) → write_failures cause ≡ 0
       → k.output ≡ n.output → k.failures ≡ n.failures + handler_failures cause
-      → HasGiven [] cause n k
-  HasGiven-silent (Write part) none same counted = absurd (omega (arith, none))
-  HasGiven-silent {n} cause none same counted = record {
+      → HasAnswered [] cause n k
+  HasAnswered-silent (Write part) none same counted = absurd (omega (arith, none))
+  HasAnswered-silent {n} cause none same counted = record {
     written = rw same (HasWritten-nothing n.output);
     flushed = rw same (omega arith);
     write_failed = rw same (omega arith);
@@ -40,11 +40,12 @@ module _ {S : Type 0} where
   }
 
   module _ {m n k : Snapshot S} {text : Bytes} {cause : Cause}
-      (first : HasGiven text Finished m n) where
-    HasGiven-then : (more : Bytes) → HasGiven more cause n k → HasGiven (text ++ more) cause m k
-    HasGiven-then more later = record {
+      (first : HasAnswered text Finished m n) where
+    HasAnswered-then : (more : Bytes) → HasAnswered more cause n k → HasAnswered
+        (text ++ more) cause m k
+    HasAnswered-then more later = record {
       written = rw (until-then cause) (HasWritten-then first.written later.written);
-      flushed = Flushed-then text more (part_written cause) m.output.unflushed n.output.unflushed
+      flushed = IsFlushed-then text more (part_written cause) m.output.unflushed n.output.unflushed
           k.output.unflushed first.flushed later.flushed;
       write_failed = omega (arith, first.write_failed, later.write_failed);
       handler_failed = omega (arith, first.handler_failed, later.handler_failed);
@@ -55,13 +56,13 @@ module _ {S : Type 0} where
         until-then (Write part) = append_assoc text more part
         until-then cause = refl
 
-    HasGiven-end : HasGiven [] cause n k → HasGiven text cause m k
-    HasGiven-end later =
-        subst (λ text. HasGiven text cause m k) (append-nil text) (HasGiven-then [] later)
+    HasAnswered-end : HasAnswered [] cause n k → HasAnswered text cause m k
+    HasAnswered-end later =
+        subst (λ text. HasAnswered text cause m k) (append-nil text) (HasAnswered-then [] later)
 
 module _ {S : Type 0} (law : SessionLaw S) where
   pub AllAnswered-nothing : (m : Snapshot S) → AllAnswered law m [] m
-  AllAnswered-nothing m = record { ends_at = refl; given = HasGiven-nothing m }
+  AllAnswered-nothing m = record { ends_at = refl; given = HasAnswered-nothing m }
 
   -- after events that were all answered
   module _ {m n : Snapshot S} {es : List FtpEvent} (all : AllAnswered law m es n) where
@@ -79,9 +80,9 @@ module _ {S : Type 0} (law : SessionLaw S) where
         sent
     whole-then fs [] = text-then fs
     whole-then fs (step ∷ steps) =
-        ap (λ text. text ++ flat_map encoded (said (step ∷ steps))) (text-then fs)
+        ap (λ text. text ++ flat_map encoded (turn_replies (step ∷ steps))) (text-then fs)
         ∙ append_assoc (text_of law m.state es) (text_of law n.state fs)
-        (flat_map encoded (said (step ∷ steps)))
+        (flat_map encoded (turn_replies (step ∷ steps)))
 
     pub RunEnded-then : {k : Snapshot S} (fs later : List FtpEvent) (sent : List (FtpReply × S))
         (cause : Cause) → RunEnded law n fs later sent cause k
@@ -89,7 +90,7 @@ module _ {S : Type 0} (law : SessionLaw S) where
     RunEnded-then fs later sent cause v = record {
       ends_at = rw (last-then fs) v.ends_at;
       given = rw (whole-then fs sent)
-          (HasGiven-then all.given (whole_text law n.state fs sent) v.given);
+          (HasAnswered-then all.given (whole_text law n.state fs sent) v.given);
     }
 
   -- with more events after it
@@ -108,22 +109,23 @@ module _ {S : Type 0} (law : SessionLaw S) where
       (sent later : List (FtpReply × S)) : Type 0 where
     pub split : turn law m.state e ≡ sent ++ later
     pub state : n.state ≡ state_after m.state sent
-    pub given : HasGiven (flat_map encoded (said sent)) Finished m n
+    pub given : HasAnswered (flat_map encoded (turn_replies sent)) Finished m n
 
   pub Replying-start : (m : Snapshot S) (e : FtpEvent) → Replying m e m [] (turn law m.state e)
-  Replying-start m e = record { split = refl; state = refl; given = HasGiven-nothing m }
+  Replying-start m e = record { split = refl; state = refl; given = HasAnswered-nothing m }
 
   sent-more : (sent : List (FtpReply × S)) (step : FtpReply × S)
-      → flat_map encoded (said (sent ++ step ∷ [])) ≡ flat_map encoded (said sent) ++ encoded step.0
+      → flat_map encoded (turn_replies (sent ++ step ∷ [])) ≡ flat_map encoded (turn_replies sent)
+      ++ encoded step.0
   sent-more [] step = append-nil (encoded step.0)
   sent-more (first ∷ sent) step = ap (λ text. encoded first.0 ++ text) (sent-more sent step)
-      ∙ sym (append_assoc (encoded first.0) (flat_map encoded (said sent)) (encoded step.0))
+      ∙ sym (append_assoc (encoded first.0) (flat_map encoded (turn_replies sent)) (encoded step.0))
 
   -- it failed after them
   failed-after : {m n k : Snapshot S} {e : FtpEvent} (sent : List (FtpReply × S)) (cause : Cause)
       (error : ServeError) → IsCauseOf cause error → ¬ (cause ≡ LineMemory)
       → EndsAt law cause m.state (e ∷ []) sent k.state
-      → HasGiven (flat_map encoded (said sent)) Finished m n → HasGiven [] cause n k
+      → HasAnswered (flat_map encoded (turn_replies sent)) Finished m n → HasAnswered [] cause n k
       → EventFailed law m e k error
   failed-after {m} {k = k} sent cause error means has_line ends first later = record {
     sent = sent;
@@ -132,12 +134,13 @@ module _ {S : Type 0} (law : SessionLaw S) where
     has_line = has_line;
     ended = record {
       ends_at = ends;
-      given = subst (λ text. HasGiven text cause m k) (whole_sent sent) (HasGiven-end first later);
+      given = subst (λ text. HasAnswered text cause m k) (whole_sent sent)
+          (HasAnswered-end first later);
     };
   }
     where
       whole_sent : (sent : List (FtpReply × S))
-          → flat_map encoded (said sent) ≡ whole_text law m.state [] sent
+          → flat_map encoded (turn_replies sent) ≡ whole_text law m.state [] sent
       whole_sent [] = refl
       whole_sent (step ∷ steps) = refl
 
@@ -147,8 +150,8 @@ module _ {S : Type 0} (law : SessionLaw S) where
       EventFailed law m e n (error.Handler failed)
   failed-at m n e failed may same failures =
       failed-after [] (Handler (fault_of failed)) (error.Handler failed) refl
-      (λ at_line. absurd (cc)) may (HasGiven-nothing m)
-      (HasGiven-silent (Handler (fault_of failed)) refl same failures)
+      (λ at_line. absurd (cc)) may (HasAnswered-nothing m)
+      (HasAnswered-silent (Handler (fault_of failed)) refl same failures)
 
   -- some of its replies were sent, and the handler has those that follow
   pub record InTurn (m : Snapshot S) (e : FtpEvent) (n : Snapshot S) : Type 0 where
@@ -168,14 +171,14 @@ module _ {S : Type 0} (law : SessionLaw S) where
     split : turn law m.state e ≡ sent ++ (reply, k.state) ∷ law.more k.state
     split = so_far.split ∙ ap (λ later. sent ++ later) follows
 
-    pub InTurn-more : Sent (encoded reply) n.output k.output → InTurn m e k
+    pub InTurn-more : IsSent (encoded reply) n.output k.output → InTurn m e k
     InTurn-more v = record {
       sent = sent ++ (reply, k.state) ∷ [];
       some = omega (arith, length_push sent (reply, k.state));
       replying = record {
         split = split ∙ sym (append_assoc sent ((reply, k.state) ∷ []) (law.more k.state));
         state = sym (state_after-append m.state sent ((reply, k.state) ∷ []));
-        given = rw (sent-more sent (reply, k.state)) (HasGiven-then so_far.given (encoded reply)
+        given = rw (sent-more sent (reply, k.state)) (HasAnswered-then so_far.given (encoded reply)
             (record {
               written = v.written;
               flushed = v.flushed;
@@ -204,7 +207,7 @@ module _ {S : Type 0} (law : SessionLaw S) where
     reply-failed error.OutOfMemory v = failed-after sent ReplyMemory error.OutOfMemory tt
         (λ at_line. absurd (cc))
         (record { reply = reply; later = law.more k.state; split = split; so = v.1 }) so_far.given
-        (HasGiven-silent ReplyMemory refl v.0 (omega (arith, quiet)))
+        (HasAnswered-silent ReplyMemory refl v.0 (omega (arith, quiet)))
     reply-failed error v = absurd v
 
   module _ {m n : Snapshot S} {e : FtpEvent} (so_far : InTurn m e n) (k : Snapshot S) where
@@ -217,7 +220,7 @@ module _ {S : Type 0} (law : SessionLaw S) where
         failed-after sent (Handler (fault_of failed)) (error.Handler failed) refl
         (λ at_line. absurd (cc)) (ends sent so_far.some replying.split (subst
         (λ s. law.may_break s (fault_of failed)) replying.state may)) replying.given
-        (HasGiven-silent (Handler (fault_of failed)) refl same failures)
+        (HasAnswered-silent (Handler (fault_of failed)) refl same failures)
       where
         ends : (sent : List (FtpReply × S)) → 0 < length sent
             → turn law m.state e ≡ sent ++ law.more n.state
@@ -231,12 +234,13 @@ module _ {S : Type 0} (law : SessionLaw S) where
     InTurn-end none state same quiet =
         let all : turn law m.state e ≡ sent =
         replying.split ∙ ap (λ more. sent ++ more) none ∙ append-nil sent in
-        let whole : text_of law m.state (e ∷ []) ≡ flat_map encoded (said sent) =
-        ap (flat_map encoded) (append-nil (said (turn law m.state e)) ∙ ap said all) in
+        let whole : text_of law m.state (e ∷ []) ≡ flat_map encoded (turn_replies sent) =
+        ap (flat_map encoded)
+            (append-nil (turn_replies (turn law m.state e)) ∙ ap turn_replies all) in
         record {
           ends_at = state ∙ replying.state ∙ ap (state_after m.state) (sym all);
-          given = rw whole (HasGiven-end replying.given
-              (HasGiven-silent Finished refl same (omega (arith, quiet))));
+          given = rw whole (HasAnswered-end replying.given
+              (HasAnswered-silent Finished refl same (omega (arith, quiet))));
         }
 
   -- at one event it failed, which others follow

@@ -4,14 +4,14 @@ use Rattle.std.specs.Prelude.{if◌then◌else◌, Some}
 use Rattle.std.proofs.Math.Seq.{take-append_seam}
 use Rattle.unftp_control_defs.specs.Bytes.{Bytes}
 use Rattle.unftp_control_defs.specs.Events.{Refused, event_for, event_of, exceeds, line_too_long}
-use Rattle.unftp_control_defs.specs.FtpCommand.{Answer, InvalidUtf8, InvalidCommand, InvalidEol}
+use Rattle.unftp_control_defs.specs.FtpCommand.{Outcome, InvalidUtf8, InvalidCommand, InvalidEol}
 use Rattle.unftp_control_defs.specs.Outcome.{outcome}
 use Rattle.unftp_control_serve.specs.Decoder.{Pending, TakesLine, line_after}
 use Rattle.unftp_control_serve.specs.EventMeaning.{event_meant, refuses_length}
 use Rattle.unftp_control_serve.specs.declared.event.Event.{Event}
 
 -- a line that is refused by the parser is not too long
-not_by_outcome : (answer : Answer) → refuses_length (event_of answer) ≡ false
+not_by_outcome : (answer : Outcome) → refuses_length (event_of answer) ≡ false
 not_by_outcome (Ok command) = refl
 not_by_outcome (Err InvalidUtf8) = refl
 not_by_outcome (Err InvalidCommand) = refl

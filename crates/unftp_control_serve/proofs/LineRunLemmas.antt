@@ -8,11 +8,11 @@ use Rattle.unftp_control_defs.specs.Run.{after, run_for, ends_for, SessionLaw, r
 use Rattle.unftp_control_defs.proofs.LineLemmas.{events-incomplete, incomplete_line-append, line_first}
 use Rattle.unftp_control_defs.proofs.RunLemmas.{line-done, unread-incomplete}
 use Rattle.unftp_control_serve.specs.Endings.{Snapshot, LineMemory, AllAnswered, EventFailed, RunAnswered, RunFailed}
-use Rattle.unftp_control_serve.specs.Decoder.{Pending, HasNoLine, MayRunOut, TakesLine}
+use Rattle.unftp_control_serve.specs.Decoder.{Pending, FindsNoLine, MayRunOut, TakesLine}
 use Rattle.unftp_control_serve.specs.declared.error.ServeError.{ServeError}
 use Rattle.unftp_control_serve.specs.declared.error.ServeError.TheVariants.{OutOfMemory}
 use Rattle.unftp_control_serve.proofs.ClientLineLemmas.{MayRunOut-taken}
-use Rattle.unftp_control_serve.proofs.EndingLemmas.{AllAnswered-nothing, EventFailed-more, GoneOn, GoneOn-answered, GoneOn-failed, GoneOn-then, HasGiven-silent}
+use Rattle.unftp_control_serve.proofs.EndingLemmas.{AllAnswered-nothing, EventFailed-more, GoneOn, GoneOn-answered, GoneOn-failed, GoneOn-then, HasAnswered-silent}
 
 -- in the loop over the lines of some bytes: the first lines were answered, and these are pending
 pub record Halfway {S : Type 0} (law : SessionLaw S) (limit : Option ℕ) (m n : Snapshot S)
@@ -48,7 +48,7 @@ module _ {S : Type 0} {law : SessionLaw S} {limit : Option ℕ} {m n : Snapshot 
 
 module _ {S : Type 0} {law : SessionLaw S} {limit : Option ℕ} {m n : Snapshot S} {bytes : Bytes}
     {p q : Pending} (so_far : Halfway law limit m n bytes p.bytes) where
-  module _ (none : HasNoLine p q) where
+  module _ (none : FindsNoLine p q) where
     no_event : events limit p.bytes ≡ []
     no_event = events-incomplete limit p.bytes none.unended
 
@@ -131,7 +131,7 @@ halfway-no_memory {law = law} {limit} {n = n} {pending = pending} so_far may =
       means = tt;
       ended = record {
         ends_at = refl;
-        given = HasGiven-silent LineMemory refl refl (omega arith);
+        given = HasAnswered-silent LineMemory refl refl (omega arith);
       };
       next_line = λ _. may;
     })

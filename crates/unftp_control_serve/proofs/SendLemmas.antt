@@ -3,7 +3,7 @@ use Rattle.std.proofs.Common.{◌≡◌, ℕ, ◌+◌, ◌≤◌, [], ◌∷◌,
 use Rattle.std.proofs.lemmas.List.{append-nil, take-append-drop}
 use Rattle.std.proofs.KnownBytes.{Appends-nil, Appends-trans}
 use Rattle.unftp_control_defs.specs.Bytes.{Bytes}
-use Rattle.unftp_control_serve.specs.Writing.{OutputState, Flushed, HasWritten, Wrote}
+use Rattle.unftp_control_serve.specs.Writing.{OutputState, IsFlushed, HasWritten, Wrote}
 
 pub HasWritten-nothing : (output : OutputState) → HasWritten output output []
 HasWritten-nothing output = record {
@@ -18,12 +18,12 @@ HasWritten-then {a} {b} {c} {text} {more} p q = record {
   known = Appends-trans a.written b.written c.written text more p.known q.known;
 }
 
-pub Flushed-then : (text more part : Bytes) (t u v : ℕ) → Flushed text [] t u
-    → Flushed more part u v → Flushed (text ++ more) part t v
-Flushed-then [] [] part t u v p q = omega arith
-Flushed-then [] (b ∷ more) part t u v p q = q
-Flushed-then (a ∷ text) [] part t u v p q = omega arith
-Flushed-then (a ∷ text) (b ∷ more) part t u v p q = q
+pub IsFlushed-then : (text more part : Bytes) (t u v : ℕ) → IsFlushed text [] t u
+    → IsFlushed more part u v → IsFlushed (text ++ more) part t v
+IsFlushed-then [] [] part t u v p q = omega arith
+IsFlushed-then [] (b ∷ more) part t u v p q = q
+IsFlushed-then (a ∷ text) [] part t u v p q = omega arith
+IsFlushed-then (a ∷ text) (b ∷ more) part t u v p q = q
 
 -- in the loop of a sending: this much is written, and the rest is left
 pub record Sending (bytes rest : Bytes) (before now : OutputState) : Type 0 where

@@ -131,7 +131,7 @@ without_line pending = record pending {
 -- ---- their events
 
 -- There is no line, and all bytes are scanned; none are kept of a line that is too long.
-pub record HasNoLine (before after : Pending) : Type 0 where
+pub record FindsNoLine (before after : Pending) : Type 0 where
   pub unended : Lacks LF before.bytes
   pub same : after.bytes ≡ before.bytes
   pub all_scanned : after.unscanned ≡ 0
@@ -160,7 +160,7 @@ pub record StaysPending (before after : Pending) : Type 0 where
 abbrev pub TakesNext : {E : Type 0} → Pending → Result (Option Event) E → Pending → Type 0
 TakesNext before result after = MatchResult result
     (λ next. MatchOption next
-    (HasNoLine before after)
+    (FindsNoLine before after)
     (λ event. TakesLine before (event_meant event) after))
     (λ _. StaysPending before after)
 

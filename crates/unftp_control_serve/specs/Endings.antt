@@ -5,10 +5,10 @@ use Rattle.unftp_control_defs.specs.Bytes.{Bytes}
 use Rattle.unftp_control_defs.specs.Events.{Fault, FtpEvent}
 use Rattle.unftp_control_defs.specs.FtpReply.{FtpReply, Nothing, encoded}
 use Rattle.unftp_control_defs.specs.Lines.{lines_of}
-use Rattle.unftp_control_defs.specs.Run.{SessionLaw, ends_for, last_state, run_for, said, state_after, text_of, turn, unread}
+use Rattle.unftp_control_defs.specs.Run.{SessionLaw, ends_for, last_state, run_for, turn_replies, state_after, text_of, turn, unread}
 use Rattle.unftp_control_message.specs.ErrorMeaning.{fault_of}
 use Rattle.unftp_control_serve.specs.Decoder.{FirstMayRunOut}
-use Rattle.unftp_control_serve.specs.Writing.{OutputState, output_state_of, Begins, Flushed, HasWritten}
+use Rattle.unftp_control_serve.specs.Writing.{OutputState, output_state_of, Begins, IsFlushed, HasWritten}
 use Rattle.unftp_control_serve.specs.declared.output.Output.{Output}
 use Rattle.unftp_control_serve.specs.declared.error.ServeError.{ServeError}
 use Rattle.unftp_control_serve.specs.declared.error.ServeError.TheVariants as error
@@ -83,7 +83,7 @@ abbrev pub whole_text : {S : Type 0} → SessionLaw S → S → List FtpEvent �
     → Bytes
 whole_text law s done [] = text_of law s done
 whole_text law s done (step ∷ steps) =
-    text_of law s done ++ flat_map encoded (said (step ∷ steps))
+    text_of law s done ++ flat_map encoded (turn_replies (step ∷ steps))
 
 -- the part of the next reply that was written, and it after the text of the whole ones
 abbrev pub part_written : Cause → Bytes
@@ -103,13 +103,13 @@ abbrev pub handler_failures : Cause → ℕ
 handler_failures (Handler _) = 1
 handler_failures _ = 0
 
--- This text was written, and after it the part of the next reply that the cause names. `Flushed`
+-- This text was written, and after it the part of the next reply that the cause names. `IsFlushed`
 -- says what of it was flushed. Where the cause is a failure of the writer or of the handler, the
 -- count of its failures rose by one; else both counts stayed.
-pub record HasGiven {S : Type 0} (text : Bytes) (cause : Cause) (before after : Snapshot S)
+pub record HasAnswered {S : Type 0} (text : Bytes) (cause : Cause) (before after : Snapshot S)
     : Type 0 where
   pub written : HasWritten before.output after.output (text_until text cause)
-  pub flushed : Flushed text (part_written cause) before.output.unflushed after.output.unflushed
+  pub flushed : IsFlushed text (part_written cause) before.output.unflushed after.output.unflushed
   pub write_failed : after.output.failures ≡ before.output.failures + write_failures cause
   pub handler_failed : after.failures ≡ before.failures + handler_failures cause
 
@@ -119,7 +119,7 @@ pub record RunEnded {S : Type 0} (law : SessionLaw S) (before : Snapshot S)
     (done later : List FtpEvent) (sent : List (FtpReply × S)) (cause : Cause) (after : Snapshot S)
     : Type 0 where
   pub ends_at : EndsAt law cause (last_state law before.state done) later sent after.state
-  pub given : HasGiven (whole_text law before.state done sent) cause before after
+  pub given : HasAnswered (whole_text law before.state done sent) cause before after
 
 -- It ended because all events were answered.
 abbrev pub AllAnswered : {S : Type 0} → SessionLaw S → Snapshot S → List FtpEvent → Snapshot S

@@ -9,7 +9,7 @@ use Rattle.unftp_control_defs.specs.Input.{InputState, HasEnded, HasRead, WereRe
 use Rattle.unftp_control_defs.specs.Lines.{incomplete_line}
 use Rattle.unftp_control_defs.specs.ReplyReader.{ReadsBack}
 use Rattle.unftp_control_defs.specs.Run.{SessionLaw, last_state, replies, run_for, ends_for, text_for, unread, after_end}
-use Rattle.unftp_control_serve.specs.Writing.{Begins, Flushed, HasWritten}
+use Rattle.unftp_control_serve.specs.Writing.{Begins, IsFlushed, HasWritten}
 use Rattle.unftp_control_serve.specs.Endings.{Snapshot, AllAnswered, RunFailed}
 use Rattle.unftp_control_serve.specs.Decoder.{kept_length, saturating_u64}
 use Rattle.unftp_control_serve.specs.Engine.{EngineState}
@@ -119,7 +119,7 @@ pub record Serves (limit : Option ℕ) {S : Type 0} (law : SessionLaw S) (before
   -- The writes took exactly the replies to the lines of these bytes, up to the line that left the
   -- handler done, and they were flushed.
   pub written : HasWritten before.output after.output (text_for limit law before.state read)
-  pub flushed : Flushed (text_for limit law before.state read) [] before.output.unflushed
+  pub flushed : IsFlushed (text_for limit law before.state read) [] before.output.unflushed
       after.output.unflushed
   -- The handler is in the last state of this run;
   pub state : after.state ≡ last_state law before.state (run_for limit law before.state read)

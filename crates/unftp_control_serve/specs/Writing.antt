@@ -61,9 +61,9 @@ abbrev pub Begins : {A : Type 0} → List A → List A → Type 0
 Begins {A} whole part = (left : List A) × (whole ≡ part ++ left)
 
 -- after a text that was flushed, where it is not empty, and a part after it that may not have been
-abbrev pub Flushed : Bytes → Bytes → ℕ → ℕ → Type 0
-Flushed [] part unflushed unflushed' = unflushed' ≤ unflushed + length part
-Flushed (b ∷ text) part unflushed unflushed' = unflushed' ≤ length part
+abbrev pub IsFlushed : Bytes → Bytes → ℕ → ℕ → Type 0
+IsFlushed [] part unflushed unflushed' = unflushed' ≤ unflushed + length part
+IsFlushed (b ∷ text) part unflushed unflushed' = unflushed' ≤ length part
 
 -- the bytes were written, and not flushed
 pub record Wrote (bytes : Bytes) (before after : OutputState) : Type 0 where
@@ -72,10 +72,10 @@ pub record Wrote (bytes : Bytes) (before after : OutputState) : Type 0 where
   pub unflushed : after.unflushed ≡ before.unflushed + length bytes
 
 -- the bytes were written, and flushed where there are any
-pub record Sent (bytes : Bytes) (before after : OutputState) : Type 0 where
+pub record IsSent (bytes : Bytes) (before after : OutputState) : Type 0 where
   pub written : HasWritten before after bytes
   pub no_failure : after.failures ≡ before.failures
-  pub flushed : Flushed bytes [] before.unflushed after.unflushed
+  pub flushed : IsFlushed bytes [] before.unflushed after.unflushed
 
 -- a beginning of the bytes was written, and then the writer failed
 pub record CutShort (bytes : Bytes) (before after : OutputState) : Type 0 where
@@ -103,7 +103,7 @@ SendFailed error bytes before after = WriterFailed error (CutShort bytes before 
 
 abbrev pub Sends : {T : Type 0} → Result T ServeError → Bytes → OutputState → OutputState → Type 0
 Sends result bytes before after = MatchResult result
-    (λ _. Sent bytes before after)
+    (λ _. IsSent bytes before after)
     (λ error. SendFailed error bytes before after)
 
 -- the sending of a reply: where memory ran out it is not `Nothing`, and nothing was written
@@ -114,5 +114,5 @@ ReplyFailed error reply before after = WriterFailed error (CutShort (encoded rep
 abbrev pub SendsReply : {T : Type 0} → Result T ServeError → FtpReply → OutputState → OutputState
     → Type 0
 SendsReply result reply before after = MatchResult result
-    (λ _. Sent (encoded reply) before after)
+    (λ _. IsSent (encoded reply) before after)
     (λ error. ReplyFailed error reply before after)

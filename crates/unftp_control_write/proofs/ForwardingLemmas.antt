@@ -9,15 +9,15 @@ use Rattle.std.proofs.lemmas.Slice.Eq.{strip_suffix_is}
 use Rattle.unftp_control_defs.specs.Bytes.{Bytes, LF, CR, crlf, Lacks}
 use Rattle.unftp_control_defs.specs.Lines.{IsLine}
 use Rattle.unftp_control_defs.specs.Verbs.{verb_of, parameter_of, upper}
-use Rattle.unftp_control_defs.specs.FtpCommand.{FtpCommand, Answer, List as Listing, TypeCode, Allo, Md5, Site, Other, Said, kind, said, word}
-use Rattle.unftp_control_defs.specs.Said.{IsSaid, Tells, value_bytes}
+use Rattle.unftp_control_defs.specs.FtpCommand.{FtpCommand, Outcome, List as Listing, TypeCode, Allo, Md5, Site, Other, Said, kind, said, word}
+use Rattle.unftp_control_defs.specs.Said.{IsSaid, MeansCommand, value_bytes}
 use Rattle.unftp_control_defs.specs.Outcome.{outcome}
 use Rattle.unftp_control_defs.specs.Canonical.{canonical_body, with_optional}
 use Rattle.unftp_control_defs.specs.Forwarded.{before_end, forwarded_line, keeps_parameter, kind_keeps, with_parameter}
 use Rattle.unftp_control_defs.proofs.LineEndLemmas.{IsLine-ends}
 use Rattle.unftp_control_defs.proofs.ForwardedLineLemmas.{before_end-crlf, before_end-lf, cut-before_end, IsLine-forwarded_line, outcome-forwarded_line}
 use Rattle.unftp_control_defs.proofs.KeptKindLemmas.{keeps_parameter-command}
-use Rattle.unftp_control_message.specs.PartsMeaning.{given, said_of}
+use Rattle.unftp_control_message.specs.PartsMeaning.{said_value, said_of}
 use Rattle.unftp_control_message.specs.declared.parts.Parts.{Parts}
 use Rattle.unftp_control_write.specs.Forwarding.{IsForwarded, LacksRoomFor, sent_line}
 use Rattle.unftp_control_defs.specs.Room.{LacksRoom}
@@ -81,7 +81,7 @@ typed_body (Other name arguments) canonical = absurd (false≢true (sym canonica
 typed_body command canonical = refl
 
 -- the command that is told of
-told : (answer : Answer) (parts : Said) → Tells answer parts
+told : (answer : Outcome) (parts : Said) → MeansCommand answer parts
     → (command : FtpCommand) × (answer ≡ Ok command) × (said command ≡ parts)
 told (Ok command) parts tells = (command, refl, tells)
 told (Err refusal) parts tells = absurd tells
@@ -94,7 +94,7 @@ module _ (line text : Bytes) (parts : Parts) (read : IsSaid (outcome line) (said
   verb_said : (said command.0).verb ≡ parts.verb
   verb_said = ap (λ parts. parts.verb) command.2
 
-  value_said : (said command.0).value ≡ given parts.value
+  value_said : (said command.0).value ≡ said_value parts.value
   value_said = ap (λ parts. parts.value) command.2
 
   module _ (is_line : IsLine line) (text_is : text ≡ before_end line) where

@@ -11,7 +11,7 @@ use Rattle.unftp_control_defs.specs.Said.{value_bytes}
 use Rattle.unftp_control_defs.specs.Verbs.{verb_of, parameter_of, upper}
 use Rattle.unftp_control_defs.specs.declared.verb.Verb.{Verb}
 use Rattle.unftp_control_message.specs.ParseRefusal.{refusal_of}
-use Rattle.unftp_control_message.specs.PartsMeaning.{given}
+use Rattle.unftp_control_message.specs.PartsMeaning.{said_value}
 use Rattle.unftp_control_message.specs.declared.parts.Value.{Value}
 use Rattle.unftp_control_write.specs.declared.forwarding.ForwardError.{ForwardError}
 use Rattle.unftp_control_write.specs.declared.forwarding.ForwardError.TheVariants.{NotALine, Refused, OutOfMemory}
@@ -44,4 +44,4 @@ pub record LacksRoomFor (line : Bytes) (buf : Vec ℕ) : Type 0 where
 abbrev pub sent_line : Bytes → Verb → Value → Bytes
 sent_line text verb value = if kind_keeps (kind verb)
     then with_parameter (upper (verb_of text)) (parameter_of text) ++ crlf
-    else with_optional (word verb) (value_bytes (given value)) ++ crlf
+    else with_optional (word verb) (value_bytes (said_value value)) ++ crlf

@@ -8,7 +8,7 @@ ghost use Rattle.example_callers.specs.EventLoop.{AnswersNext, LeavesUnanswered}
 ghost use Rattle.example_callers.specs.ExampleTalks.{before_session};
 ghost use Rattle.example_callers.specs.NextCode.{ReceivesAgreement, ReceivesCode};
 ghost use Rattle.example_callers.specs.Pieces.{AnswersPieces, FailsAtPiece, HasNoRoom};
-ghost use Rattle.example_callers.specs.Sessions.{SessionEnded, at_start, unused_input};
+ghost use Rattle.example_callers.specs.Sessions.{SessionEnded, snapshot_at_start, unused_input};
 ghost use Rattle.example_callers.specs.UntilTls.{LeavesStream};
 ghost use Rattle.example_callers.specs.WholeLine.{AnswersLine, ascii_modes, image_modes};
 ghost use Rattle.unftp_control.specs.Bytes.{Bytes};
@@ -36,13 +36,15 @@ use unftp_control::serve::ServeError;
 /// What a session is at Ok, where all was read, and at its errors.
 pub fn sessions_end_so()
     ensures written { (after : Snapshot Bool) (input : InputState) (served : Served)
-        → SessionEnded None (as_session basic) (at_start false 2 None) after (unused_input None)
+        → SessionEnded None (as_session basic) (snapshot_at_start false 2 None) after
+        (unused_input None)
         input
         (Ok served)
         → input.given ≡ codes "NOOP\r\nNO"
         → (after.output.taken ≡ codes "200 OK\r\n") × (after.state ≡ false) × (after.failures ≡ 2) }
     ensures not_written { (after : Snapshot Bool) (input : InputState) (served : Served)
-        → SessionEnded None (as_session basic) (at_start false 0 None) after (unused_input None)
+        → SessionEnded None (as_session basic) (snapshot_at_start false 0 None) after
+        (unused_input None)
         input
         (Ok served)
         → input.given ≡ codes "NOOP\r\nNO" → after.output.taken ≡ codes "200 OK\r" → ⊥ }

@@ -5,7 +5,7 @@ ghost use Rattle.unftp_control_defs.specs.FtpCommand.{Abor, Noop, Quit, Rest, Ty
 ghost use Rattle.example_callers.specs.DataAnswers.{Opened, Took, Gave, Closed, OpenFailed, SendFailed, ReceiveFailed, CloseFailed, answer_to_close, answer_to_open, answer_to_receive, answer_to_send, received_in, sent_in};
 ghost use Rattle.example_callers.specs.CameTo.{CameTo, RanOut};
 ghost use Rattle.example_callers.specs.TransferLaws.{AtEvent, Retrieves, Stores, TransfersNothing, answers_for, state_after_event};
-ghost use Rattle.example_callers.specs.Transfers.{at_start, closing, left_in, outcome_of, receiving, sending, stored, transfers_law, with_opening};
+ghost use Rattle.example_callers.specs.Transfers.{new_transfer, closing, left_in, transfer_outcome, receiving, sending, stored, transfers_law, with_opening};
 ghost use Rattle.example_callers.specs.TransferExamples.{abc, all_received, all_sent, codes_to, file_after, holding, later, replies_at, retr, stor};
 ghost use Rattle.example_callers.specs.declared.transfers.transfer.Ending.TheVariants.{Complete, NotOpened, Aborted, NotClosed};
 ghost use Rattle.example_callers.specs.declared.transfers.transfer.Transfer.TheVariants.{Retrieve, Store};
@@ -27,9 +27,9 @@ pub fn answers_say_so()
 /// A transfer uses the answers to its own calls: to open, to send what is left or to receive, and
 /// to close.
 pub fn calls_are_used()
-    ensures sent { outcome_of Retrieve abc all_sent
+    ensures sent { transfer_outcome Retrieve abc all_sent
         ≡ record { ending = Complete; used = 4; bytes = abc } }
-    ensures received { outcome_of Store abc all_received
+    ensures received { transfer_outcome Store abc all_received
         ≡ record { ending = Complete; used = 5; bytes = codes "xyz" } }
     ensures not_closed { sending abc (Took abc 3 ∷ CloseFailed ∷ [])
         ≡ record { ending = NotClosed; used = 2; bytes = abc } }
@@ -80,7 +80,7 @@ pub fn states_follow()
         (state_after_event [] (holding 0 abc) (Command Quit)) ≡ true }
     ensures goes_on { (transfers_law []).done
         (state_after_event [] (holding 0 abc) (Command Abor)) ≡ false }
-    ensures first { at_start (Opened ∷ Closed ∷ []) abc ≡ holding 0 abc }
+    ensures first { new_transfer (Opened ∷ Closed ∷ []) abc ≡ holding 0 abc }
     ensures left { (left_in (holding 0 abc) ≡ 0)
         × (left_in ((transfers_law []).next (holding 0 abc) retr) ≡ 1) }
     ensures faults { ((transfers_law []).may_fail (holding 0 abc) retr line_too_long → ⊥)

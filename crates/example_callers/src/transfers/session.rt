@@ -13,7 +13,7 @@ ghost use Rattle.unftp_control_serve.specs.EventMeaning.{event_meant};
 ghost use Rattle.unftp_control_serve.specs.Writing.{Begins};
 ghost use Rattle.example_callers.specs.DataAnswers.{DataAnswer};
 ghost use Rattle.example_callers.specs.CameTo.{RanOut};
-ghost use Rattle.example_callers.specs.Transfers.{at_start, failures_of, first_reply, follow_up, left_in, offset_after, state_of, transfer_of, transfers_law};
+ghost use Rattle.example_callers.specs.Transfers.{new_transfer, transfer_failures, first_reply, follow_up, left_in, offset_after, state_of, transfer_of, transfers_law};
 
 use crate::transfers::data::DataConnection;
 use crate::transfers::transfer::{Transfer, final_reply, retrieve, store};
@@ -44,8 +44,8 @@ impl<D: DataConnection> Transfers<D> {
     /// A session with this file, before the first event.
     pub fn new(connection: D, file: Vec<u8>) -> Transfers<D>
         ensures connection { result.connection ≡ connection }
-        ensures state { state_of D.answers result ≡ at_start (D.answers connection) file.items }
-        ensures failures { failures_of result ≡ 0 }
+        ensures state { state_of D.answers result ≡ new_transfer (D.answers connection) file.items }
+        ensures failures { transfer_failures result ≡ 0 }
     {
         Transfers {
             connection,
@@ -159,7 +159,7 @@ fn first_reply(alloc: Global, end: usize, event: &Event) -> Result<Reply, Contro
 
 impl<D: DataConnection> Session for Transfers<D> {
     ghost use Rattle.example_callers.specs.DataAnswers.{DataAnswer};
-    ghost use Rattle.example_callers.specs.Transfers.{TransferState, failures_of, left_in, state_of, transfers_law};
+    ghost use Rattle.example_callers.specs.Transfers.{TransferState, transfer_failures, left_in, state_of, transfers_law};
 
     ghost State = { TransferState };
 
@@ -173,14 +173,14 @@ impl<D: DataConnection> Session for Transfers<D> {
 
     ghost left = { left_in };
 
-    ghost failures = { failures_of };
+    ghost failures = { transfer_failures };
 
     /// The first reply to an event, which leaves the file as it is, and makes no call.
     fn first(&mut self, alloc: Global, event: Event) -> Result<Reply, ControlChanError>
         ensures heard { Begins (D.answers self.new.connection) (D.answers self.old.connection) }
         ensures answers { (said : List DataAnswer) → Begins said (D.answers self.new.connection)
             → FirstAnswer (transfers_law said) (state_of D.answers self.old)
-            (state_of D.answers self.new) (failures_of self.old) (failures_of self.new)
+            (state_of D.answers self.new) (transfer_failures self.old) (transfer_failures self.new)
             (event_meant event) result }
         ensures kept { (self.new.file.items ≡ self.old.file.items)
             × (self.new.connection ≡ self.old.connection) }
@@ -203,7 +203,8 @@ impl<D: DataConnection> Session for Transfers<D> {
         ensures heard { Begins (D.answers self.new.connection) (D.answers self.old.connection) }
         ensures answers { (said : List DataAnswer) → Begins said (D.answers self.new.connection)
             → FurtherAnswer (transfers_law said) (state_of D.answers self.old)
-            (state_of D.answers self.new) (failures_of self.old) (failures_of self.new) left_in
+            (state_of D.answers self.new) (transfer_failures self.old)
+                (transfer_failures self.new) left_in
             result }
         ensures kept { OnErr result (self.new.file.items ≡ self.old.file.items) }
         ensures ran_out { OnErr result (IfSome self.old.pending (λ transfer.
@@ -256,12 +257,12 @@ pub fn serve_transfers<R: Read, W: Write, D: DataConnection>(
         (state_of D.answers transfers.old) input))) }
     // At Ok, of any reader and any writer, and at each error.
     ensures ok { IfOk result (Serves None (transfers_law (D.answers transfers.new.connection))
-        (snapshot_of (state_of D.answers) failures_of W.contents transfers.old writer.old)
-        (snapshot_of (state_of D.answers) failures_of W.contents transfers.new writer.new)
+        (snapshot_of (state_of D.answers) transfer_failures W.contents transfers.old writer.old)
+        (snapshot_of (state_of D.answers) transfer_failures W.contents transfers.new writer.new)
         (input_state_of R.remaining reader.old) (input_state_of R.remaining reader.new)) }
     ensures err { IfErr result (ServeEnded None (transfers_law (D.answers transfers.new.connection))
-        (snapshot_of (state_of D.answers) failures_of W.contents transfers.old writer.old)
-        (snapshot_of (state_of D.answers) failures_of W.contents transfers.new writer.new)
+        (snapshot_of (state_of D.answers) transfer_failures W.contents transfers.old writer.old)
+        (snapshot_of (state_of D.answers) transfer_failures W.contents transfers.new writer.new)
         (input_state_of R.remaining reader.old) (input_state_of R.remaining reader.new)) }
 {
     serve(alloc, reader, writer, transfers)

@@ -4,7 +4,7 @@ ghost use Rattle.std.specs.List.{concat};
 ghost use Rattle.unftp_control_defs.specs.Bytes.{Bytes};
 ghost use Rattle.unftp_control_defs.specs.FtpReply.{FtpReply};
 ghost use Rattle.unftp_control_defs.specs.ReplyReader.{HasFront};
-ghost use Rattle.unftp_control_defs.specs.Run.{all_said};
+ghost use Rattle.unftp_control_defs.specs.Run.{all_replies};
 ghost use Rattle.unftp_control_defs.specs.TakingSteps.{AreTakingSteps, TakesReply, TakingStep, all_pushed, all_taken};
 ghost use Rattle.unftp_control_proxy.specs.ProxyCalls.{ProxyState, new_proxy};
 ghost use Rattle.unftp_control_proxy.specs.Traffic.{ChangesNothing, IsTraffic, Traffic, client_lines};
@@ -32,7 +32,7 @@ pub fn conversation_through_a_proxy<H: Session>()
         → AreTakingSteps TakesReply [] steps pending
         → all_pushed steps ++ more ≡ traffic.to_client
         → (unread : List (ℕ × List Bytes)) × Show (all_taken steps ++ unread)
-        (all_said (turns_to server (concat (client_lines traffic.lines)))) }
+        (all_replies (turns_to server (concat (client_lines traffic.lines)))) }
     // Once all came, they are all, each line has its own, and no byte is pending.
     ensures all { (said : List H.Said) (state : H.State) (greeting : FtpReply)
         (limits : RustLimits) (traffic : Traffic) (later : ProxyState)

@@ -6,13 +6,13 @@ ghost use Rattle.unftp_control_defs.specs.Bytes.{Bytes};
 ghost use Rattle.unftp_control_defs.specs.Events.{Command as Event};
 ghost use Rattle.unftp_control_defs.specs.FtpCommand.{Auth, Pass, User};
 ghost use Rattle.unftp_control_defs.specs.declared.parameters.AuthParam.TheVariants.{Tls};
-ghost use Rattle.unftp_control_client.specs.Dialogue.{at_start};
+ghost use Rattle.unftp_control_client.specs.Dialogue.{new_dialogue};
 ghost use Rattle.unftp_control_client.specs.declared.dialogue.To.TheVariants.{Command, Greeting, Nothing};
 ghost use Rattle.unftp_control_c.specs.Clients.{dialogue_of, may_begin_tls, new_client, place_in, to_number};
 ghost use Rattle.unftp_control_c.specs.LogLines.{IsLogLine, numbered_log_line};
 ghost use Rattle.unftp_control_c.specs.Logins.{after_answer, after_event, kept_after_all, login_step, nobody, progress_of};
 ghost use Rattle.unftp_control_c.specs.declared.login.Progress.TheVariants.{Asked, LoggedIn, Named, NoName};
-ghost use Rattle.unftp_control_c.specs.declared.login.Step.TheVariants.{AskAccounts, NeedLogin, NeedName, NeedPassword, PassOn};
+ghost use Rattle.unftp_control_c.specs.declared.login.LoginStep.TheVariants.{AskAccounts, NeedLogin, NeedName, NeedPassword, PassOn};
 ghost use Rattle.unftp_control_c.specs.declared.status.Status.TheVariants.{NoLine, OutOfMemory};
 
 /// Log lines, by what `unftp_next` returned: 2 is PASS, and 105 a line that is too long.
@@ -29,12 +29,12 @@ pub fn lines_are_logged()
 
 /// What a client keeps: a flag says whether a number is there.
 pub fn clients_keep_a_dialogue()
-    ensures start { dialogue_of new_client ≡ at_start }
+    ensures start { dialogue_of new_client ≡ new_dialogue }
     ensures greeted { dialogue_of (record new_client { greeted = 1 })
-        ≡ record at_start { answered = Some 0 } }
-    ensures not_greeted { dialogue_of (record new_client { answered = 1 }) ≡ at_start }
+        ≡ record new_dialogue { answered = Some 0 } }
+    ensures not_greeted { dialogue_of (record new_client { answered = 1 }) ≡ new_dialogue }
     ensures asks { dialogue_of (record new_client { sent = 1; asks = 1 })
-        ≡ record at_start { sent = 1; asked = Some 0 } }
+        ≡ record new_dialogue { sent = 1; asked = Some 0 } }
     ensures place { place_in (Command 3) ≡ 3 }
     ensures no_place { place_in Nothing ≡ 0 }
     ensures numbers { to_number Greeting ∷ to_number (Command 3) ∷ to_number Nothing ∷ []

@@ -4,7 +4,7 @@ ghost use Rattle.std.specs.Str.Lossy.{utf8_lossy};
 ghost use Rattle.unftp_control_defs.specs.Paths.{path_of};
 ghost use Rattle.unftp_control_defs.specs.FtpCommand.{Text, maybe_raw, maybe_text, unless_empty};
 ghost use Rattle.unftp_control_defs.specs.Rules.{optional_text};
-ghost use Rattle.unftp_control_message.specs.PartsMeaning.{IsBorrowed, given};
+ghost use Rattle.unftp_control_message.specs.PartsMeaning.{IsBorrowed, said_value};
 ghost use Rattle.unftp_control_message.specs.SentValues.{sent_value};
 
 use std::str::from_utf8;
@@ -15,7 +15,7 @@ use unftp_control_message::sent::Sent;
 #[inline(always)]
 #[tactic(auto, using(crate::proofs::TextLemmas::texts))]
 pub fn text(sent: Sent<'_>) -> Value<'_>
-    ensures value { given result ≡ Text (utf8_lossy (sent_value sent.entry)) }
+    ensures value { said_value result ≡ Text (utf8_lossy (sent_value sent.entry)) }
     ensures borrowed { IsBorrowed result }
 {
     let Sent::Plain(bytes) = sent else {
@@ -30,7 +30,7 @@ pub fn text(sent: Sent<'_>) -> Value<'_>
 /// The value as bytes, or none where it is empty.
 #[inline(always)]
 pub fn raw(sent: Sent<'_>) -> Value<'_>
-    ensures value { given result ≡ maybe_raw (unless_empty (sent_value sent.entry)) }
+    ensures value { said_value result ≡ maybe_raw (unless_empty (sent_value sent.entry)) }
     ensures borrowed { IsBorrowed result }
 {
     if sent.is_empty() {
@@ -42,7 +42,7 @@ pub fn raw(sent: Sent<'_>) -> Value<'_>
 /// The value as text, or none where it is empty.
 #[inline(always)]
 pub fn optional_text(sent: Sent<'_>) -> Value<'_>
-    ensures value { given result ≡ optional_text (sent_value sent.entry) }
+    ensures value { said_value result ≡ optional_text (sent_value sent.entry) }
     ensures borrowed { IsBorrowed result }
 {
     if sent.is_empty() {
@@ -82,7 +82,7 @@ fn path_start(value: &[u8]) -> usize
 /// The path of LIST, or none where nothing is after its options.
 #[tactic(auto, using(crate::proofs::TextLemmas::texts))]
 pub fn listing(sent: Sent<'_>) -> Value<'_>
-    ensures value { given result
+    ensures value { said_value result
         ≡ maybe_text (unless_empty (path_of (utf8_lossy (sent_value sent.entry)))) }
     ensures borrowed { IsBorrowed result }
 {

@@ -13,10 +13,10 @@ use unftp_control_message::reply::error::ParseErrorKind;
 use unftp_control_message::sent::{Sent, value_start};
 use unftp_control_message::{AuthParam, ModeParam, Opt, ProtParam, StruParam};
 
-type Answer<'a> = Result<Value<'a>, ParseErrorKind>;
+type Typed<'a> = Result<Value<'a>, ParseErrorKind>;
 
 /// What the verb's own type makes of the value.
-pub fn typed<'a>(verb: Verb, sent: Sent<'_>) -> Answer<'a>
+pub fn typed<'a>(verb: Verb, sent: Sent<'_>) -> Typed<'a>
     ensures { ReadsTo (typed_answer verb (sent_value sent.entry)) verb [] result }
 {
     match sent {
@@ -27,7 +27,7 @@ pub fn typed<'a>(verb: Verb, sent: Sent<'_>) -> Answer<'a>
 
 /// What the verb's own type makes of a value that is sent so.
 #[tactic(auto, using(crate::proofs::TypedLemmas::same_answer))]
-fn typed_escaped<'a>(verb: Verb, sent: &[u8]) -> Answer<'a>
+fn typed_escaped<'a>(verb: Verb, sent: &[u8]) -> Typed<'a>
     ensures { ReadsTo (typed_answer verb (unescaped sent.now)) verb [] result }
 {
     match verb {
@@ -38,7 +38,7 @@ fn typed_escaped<'a>(verb: Verb, sent: &[u8]) -> Answer<'a>
 }
 
 /// What the verb's own type makes of the bytes.
-fn typed_bytes<'a>(verb: Verb, value: &[u8]) -> Answer<'a>
+fn typed_bytes<'a>(verb: Verb, value: &[u8]) -> Typed<'a>
     ensures { ReadsTo (typed_answer verb value.now) verb [] result }
 {
     match verb {
@@ -54,7 +54,7 @@ fn typed_bytes<'a>(verb: Verb, value: &[u8]) -> Answer<'a>
 }
 
 /// STRU and a structure (RFC 959, section 3.1.2).
-fn stru<'a>(value: &[u8]) -> Answer<'a>
+fn stru<'a>(value: &[u8]) -> Typed<'a>
     ensures { ReadsTo (chosen structures value.now) spec.Stru [] result }
 {
     let structure = match value {
@@ -67,7 +67,7 @@ fn stru<'a>(value: &[u8]) -> Answer<'a>
 }
 
 /// MODE and a transfer mode (RFC 959, section 3.4).
-fn mode<'a>(value: &[u8]) -> Answer<'a>
+fn mode<'a>(value: &[u8]) -> Typed<'a>
     ensures { ReadsTo (chosen modes value.now) spec.Mode [] result }
 {
     let mode = match value {
@@ -80,7 +80,7 @@ fn mode<'a>(value: &[u8]) -> Answer<'a>
 }
 
 /// PROT and a protection level (RFC 2228, section 3).
-fn prot<'a>(value: &[u8]) -> Answer<'a>
+fn prot<'a>(value: &[u8]) -> Typed<'a>
     ensures { ReadsTo (chosen protections value.now) spec.Prot [] result }
 {
     let param = match value {
@@ -95,7 +95,7 @@ fn prot<'a>(value: &[u8]) -> Answer<'a>
 
 /// OPTS and the option UTF8, its two words both in upper case or both in lower case (RFC 2389,
 /// section 4).
-fn opts<'a>(value: &[u8]) -> Answer<'a>
+fn opts<'a>(value: &[u8]) -> Typed<'a>
     ensures { ReadsTo (chosen options value.now) spec.Opts [] result }
 {
     let on = if b"UTF8 ON".as_slice() == value || b"utf8 on".as_slice() == value {
@@ -111,7 +111,7 @@ fn opts<'a>(value: &[u8]) -> Answer<'a>
 /// AUTH and a mechanism, ignoring ASCII case (RFC 2228, section 3; RFC 4217, section 2).
 #[inline(always)]
 #[tactic(auto, using(crate::proofs::OutcomeLemmas::outcomes))]
-fn auth<'a>(value: &[u8]) -> Answer<'a>
+fn auth<'a>(value: &[u8]) -> Typed<'a>
     ensures { ReadsTo (auth value.now) spec.Auth [] result }
 {
     if value.len() > 3 {
@@ -129,7 +129,7 @@ fn auth<'a>(value: &[u8]) -> Answer<'a>
 }
 
 /// AUTH and a mechanism that is sent so. No mechanism has more than three bytes.
-fn auth_escaped<'a>(sent: &[u8]) -> Answer<'a>
+fn auth_escaped<'a>(sent: &[u8]) -> Typed<'a>
     ensures { ReadsTo (auth (unescaped sent.now)) spec.Auth [] result }
 {
     let (start, len) = value_start(sent);
@@ -137,7 +137,7 @@ fn auth_escaped<'a>(sent: &[u8]) -> Answer<'a>
 }
 
 /// PBSZ and the size 0 (RFC 4217, section 9).
-fn pbsz<'a>(value: &[u8]) -> Answer<'a>
+fn pbsz<'a>(value: &[u8]) -> Typed<'a>
     ensures { ReadsTo (chosen buffer_sizes value.now) spec.Pbsz [] result }
 {
     match value {
@@ -148,7 +148,7 @@ fn pbsz<'a>(value: &[u8]) -> Answer<'a>
 
 /// REST and an offset (RFC 3659, section 5).
 #[tactic(auto, using(crate::proofs::OffsetLemmas::offsets))]
-fn rest<'a>(value: &[u8]) -> Answer<'a>
+fn rest<'a>(value: &[u8]) -> Typed<'a>
     ensures { ReadsTo (offset (utf8_lossy value.now)) spec.Rest [] result }
 {
     let Ok(text) = from_utf8(value) else {

@@ -1,7 +1,7 @@
 use Rattle.std.proofs.Common.{◌≡◌, ℕ, true, false, ◌∷◌, Ok, Err, codes, refl, sym, ap, ◌∙◌, arith}
 use Rattle.std.specs.Prelude.{IsOk}
 use Rattle.unftp_control.specs.Bytes.{Bytes}
-use Rattle.unftp_control.specs.FtpCommand.{Answer, InvalidCommand, Noop, Refusal}
+use Rattle.unftp_control.specs.FtpCommand.{Outcome, InvalidCommand, Noop, Refusal}
 use Rattle.unftp_control.specs.Outcome.{outcome}
 use Rattle.unftp_control.proofs.LineLemmas.{Lines-lines_of}
 use Rattle.unftp_control_defs.proofs.Computing.{at_bytes}
@@ -21,7 +21,7 @@ no_command : IsOk (outcome (255 ∷ codes "\r\n")) → ⊥
 unfolding at_bytes
 no_command is = let not : false ≡ true = is in cc
 
-no_refusal : (why : Refusal) → ◌≡◌ {A = Answer} (Ok Noop) (Err why) → ⊥
+no_refusal : (why : Refusal) → ◌≡◌ {A = Outcome} (Ok Noop) (Err why) → ⊥
 no_refusal why e = cc
 
 replied : IsReplyInPlace (codes "NOOP\r\n") (codes "500 Not understood\r\n") → ⊥

@@ -1,7 +1,7 @@
 use Rattle.std.proofs.Common.{[], ◌∷◌, refl, arith, inl}
 use Rattle.std.proofs.lemmas.Result.{err_from_is_err_and}
 use Rattle.unftp_control_defs.proofs.InputLemmas.{WereRead-start}
-use Rattle.example_callers.proofs.LogLemmas.{Sent-nothing, Logging-stops_at, Logging-end, Logging-failed, Logging-next, Logging-stops, Logging-too_often}
+use Rattle.example_callers.proofs.LogLemmas.{IsSent-nothing, Logging-stops_at, Logging-end, Logging-failed, Logging-next, Logging-stops, Logging-too_often}
 use Rattle.example_callers.proofs.log.log_lines.Goals as goal
 
 pub loop-turn-init : goal.loop-turn-init
@@ -9,7 +9,7 @@ loop-turn-init g c = rw c.with_limit-decoder.ensures record {
   all = record {
     pieces = [];
     were_read = WereRead-start _;
-    sent = Sent-nothing _;
+    sent = IsSent-nothing _;
     reads_failed = omega arith;
   };
   pending = refl;

@@ -1,12 +1,12 @@
 use Rattle.std.proofs.Common.{[], refl, ◌∙◌}
 use Rattle.std.proofs.lemmas.Result.{err_from_is_err_and}
 use Rattle.unftp_control_serve.proofs.ClientLineLemmas.{MayRunOut-taken}
-use Rattle.example_callers.proofs.LogLemmas.{Halfway-all, Halfway-end, Halfway-next, Halfway-stops, Sent-nothing, entry_is}
+use Rattle.example_callers.proofs.LogLemmas.{Halfway-all, Halfway-end, Halfway-next, Halfway-stops, IsSent-nothing, entry_is}
 use Rattle.example_callers.proofs.log.log_pending.Goals as goal
 
 pub loop-event-init : goal.loop-event-init
 loop-event-init g c =
-    record { logged = []; limited = refl; split = refl; same_end = refl; sent = Sent-nothing _ }
+    record { logged = []; limited = refl; split = refl; same_end = refl; sent = IsSent-nothing _ }
 
 pub returns-in_err-event-clause-err : goal.returns-in_err-event-clause-err
 returns-in_err-event-clause-err g c =

@@ -5,7 +5,7 @@ ghost use Rattle.std.specs.Prelude.{◌≡◌, ◌≢◌, ◌∷◌, ◌++◌, [
 ghost use Rattle.unftp_control_defs.specs.Events.{events};
 ghost use Rattle.unftp_control_defs.specs.FtpCommand.{Noop, Retr};
 ghost use Rattle.unftp_control_defs.specs.FtpReply.{CodeAndMsg, MultiLine, Nothing, IsReadable};
-ghost use Rattle.unftp_control_client.specs.Steps.{Received, Sent};
+ghost use Rattle.unftp_control_client.specs.Steps.{Received, SentLine};
 ghost use Rattle.unftp_control_client.specs.declared.Client.{Client as RustClient};
 ghost use Rattle.unftp_control_client.specs.declared.dialogue.To.TheVariants.{Command, Greeting};
 ghost use Rattle.unftp_control.specs.Acts.{AreFirst, AtClient, AtServer, InOrder, IsConversation, IsUnderstood, exchanges, turns_to};
@@ -45,9 +45,9 @@ pub fn acts_are_in_order()
     ensures not_sent { ¬ InOrder farewell_server (AtServer (codes "N") ∷ []) }
     ensures not_said { ¬ InOrder farewell_server (AtClient (Received (codes "220\r\n2")) ∷ []) }
     ensures conversation { IsConversation farewell_server None
-        (AtClient (Sent noop) ∷ AtServer (codes "NO") ∷ []) (client_with (dialogue 1 None) []) }
+        (AtClient (SentLine noop) ∷ AtServer (codes "NO") ∷ []) (client_with (dialogue 1 None) []) }
     ensures came_first { (client : RustClient) → ¬ IsConversation farewell_server None
-        (AtServer (codes "NO") ∷ AtClient (Sent noop) ∷ []) client }
+        (AtServer (codes "NO") ∷ AtClient (SentLine noop) ∷ []) client }
 {}
 
 /// Turns that a client understands, and what each of their replies is to.

@@ -3,10 +3,10 @@
 
 ghost use Rattle.std.specs.Prelude.{◌≡◌, ◌-◌, ◌^◌, ℕ, [], ◌∷◌, None, Some, Ok, Err, true, false, codes, vec_capacity, vec_len, ⊤};
 ghost use Rattle.std.specs.Global.{Vec};
-ghost use Rattle.unftp_control_client.specs.Dialogue.{asks_for_tls, at_start};
+ghost use Rattle.unftp_control_client.specs.Dialogue.{asks_for_tls, new_dialogue};
 ghost use Rattle.unftp_control_client.specs.ForwardingSteps.{Answered, Forwarded, IsForwardingStep, Passed, is_line, replies_given};
 ghost use Rattle.unftp_control_client.specs.Exchange.{IsNext, IsOtherError, MayBeginTls, new_client};
-ghost use Rattle.unftp_control_client.specs.Steps.{AreExchanges, AreSteps, EndsInAgreement, IsStep, Received, Sent, Took};
+ghost use Rattle.unftp_control_client.specs.Steps.{AreExchanges, AreClientSteps, EndsInAgreement, IsClientStep, Received, SentLine, Took};
 ghost use Rattle.unftp_control_client.specs.declared.Client.{Client as RustClient};
 ghost use Rattle.unftp_control_client.specs.declared.dialogue.ClientReply.{ClientReply as RustReply};
 ghost use Rattle.unftp_control_client.specs.declared.dialogue.To.TheVariants.{Greeting, Command, Nothing};
@@ -34,9 +34,9 @@ pub fn tls_may_begin_here()
 /// What a call that takes a reply leaves, at a reply and at an error.
 pub fn these_are_next()
     ensures greeting { (taken : RustReply) → taken.to ≡ Greeting → taken.reply.code ≡ 220
-        → IsNext {E = Unit {0}} at_start (Ok (Some taken)) (dialogue 0 (Some 0)) }
+        → IsNext {E = Unit {0}} new_dialogue (Ok (Some taken)) (dialogue 0 (Some 0)) }
     ensures to_a_command { (taken : RustReply) → taken.to ≡ Command 0
-        → ¬ IsNext {E = Unit {0}} at_start (Ok (Some taken)) (dialogue 0 (Some 0)) }
+        → ¬ IsNext {E = Unit {0}} new_dialogue (Ok (Some taken)) (dialogue 0 (Some 0)) }
     ensures noted_at_an_error { ¬ IsNext {E = ℕ} (dialogue 1 None) (Err 0) (dialogue 1 (Some 0)) }
 {}
 
@@ -58,30 +58,32 @@ pub fn this_room_is_lacking()
 
 /// What a client's calls change.
 pub fn these_are_steps()
-    ensures sent { IsStep (client_with at_start []) (Sent noop) (client_with (dialogue 1 None) []) }
-    ensures not_counted { ¬ IsStep (client_with at_start []) (Sent noop) (client_with at_start []) }
-    ensures reply_left { ¬ IsStep (client_with at_start (codes "220\r\n2"))
+    ensures sent { IsClientStep (client_with new_dialogue []) (SentLine noop)
+        (client_with (dialogue 1 None) []) }
+    ensures not_counted { ¬ IsClientStep (client_with new_dialogue []) (SentLine noop)
+        (client_with new_dialogue []) }
+    ensures reply_left { ¬ IsClientStep (client_with new_dialogue (codes "220\r\n2"))
         (Took (reply_with 220 Greeting)) (client_with (dialogue 0 (Some 0)) (codes "220\r\n2")) }
 {}
 
 /// Runs that end in an agreement to begin TLS, and some that don't.
 pub fn these_end_in_agreement()
     ensures agreed { EndsInAgreement
-        (Took (reply_with 220 Greeting) ∷ Sent noop ∷ Sent auth_tls
+        (Took (reply_with 220 Greeting) ∷ SentLine noop ∷ SentLine auth_tls
         ∷ Took (reply_with 200 (Command 0)) ∷ Took (reply_with 234 (Command 1)) ∷ []) }
     ensures later_line { ¬ EndsInAgreement
-        (Took (reply_with 220 Greeting) ∷ Sent auth_tls ∷ Took (reply_with 234 (Command 0))
-        ∷ Sent noop ∷ []) }
+        (Took (reply_with 220 Greeting) ∷ SentLine auth_tls ∷ Took (reply_with 234 (Command 0))
+        ∷ SentLine noop ∷ []) }
 {}
 
 /// Whole runs. RETR and NOOP are sent at once, before the greeting came.
 pub fn these_are_runs()
-    ensures unasked { AreSteps (new_client None)
+    ensures unasked { AreClientSteps (new_client None)
         (Received (codes "220\r\n421\r\n")
         ∷ Took (reply_with 220 Greeting) ∷ Took (reply_with 421 Nothing) ∷ [])
         (client_with (dialogue 0 (Some 0)) []) }
-    ensures settled_by_150 { (client : RustClient) → ¬ AreSteps (new_client None)
-        (Sent retr ∷ Sent noop ∷ Received (codes "220\r\n150\r\n226\r\n")
+    ensures settled_by_150 { (client : RustClient) → ¬ AreClientSteps (new_client None)
+        (SentLine retr ∷ SentLine noop ∷ Received (codes "220\r\n150\r\n226\r\n")
         ∷ Took (reply_with 220 Greeting) ∷ Took (reply_with 150 (Command 0))
         ∷ Took (reply_with 226 (Command 1)) ∷ []) client }
 {}

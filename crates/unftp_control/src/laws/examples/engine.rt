@@ -8,7 +8,7 @@ ghost use Rattle.unftp_control_defs.specs.FtpReply.{CodeAndMsg};
 ghost use Rattle.unftp_control_serve.specs.Endings.{Snapshot, Finished, Write, Handler, LineMemory, ReplyMemory, IsCauseOf, AllAnswered, EventFailed, RunEnded, RunFailed, NoRoom, OnWrite};
 ghost use Rattle.unftp_control_serve.specs.Engine.{LacksPieceRoom, fed};
 ghost use Rattle.unftp_control.specs.Snapshots.{counter, noop, silent, snapshot, two_replies, waiting};
-ghost use Rattle.unftp_control_serve.specs.Writing.{Begins, Flushed, OneFlush, OneWrite, OutputState, Sends};
+ghost use Rattle.unftp_control_serve.specs.Writing.{Begins, IsFlushed, OneFlush, OneWrite, OutputState, Sends};
 
 use unftp_control_serve::ServeError;
 
@@ -99,7 +99,7 @@ pub fn an_event_fails()
 
 /// What may be unflushed, and what a text begins with.
 pub fn flushes_and_beginnings()
-    ensures a_text { (unflushed : ℕ) → Flushed (codes "x") (codes "ab") 1 unflushed
+    ensures a_text { (unflushed : ℕ) → IsFlushed (codes "x") (codes "ab") 1 unflushed
         → unflushed ≤ 2 }
     ensures other_bytes { Begins (codes "ab") (codes "b") → ⊥ }
 {}

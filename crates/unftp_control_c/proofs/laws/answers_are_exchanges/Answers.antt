@@ -1,6 +1,6 @@
 -- A proxy in C answers lines between the exchanges of its server.
 use Rattle.std.proofs.Common.{◌≡◌, ◌==◌, ℕ, Bool, true, false, refl, eqb-true}
-use Rattle.unftp_control_client.specs.Dialogue.{at_start}
+use Rattle.unftp_control_client.specs.Dialogue.{new_dialogue}
 use Rattle.unftp_control_client.specs.ForwardingSteps.{IsGreeted}
 use Rattle.unftp_control_client.specs.Steps.{is_something}
 use Rattle.unftp_control_client.specs.declared.dialogue.To.{To}
@@ -28,5 +28,5 @@ returns c = record {
     refl,
   );
   pass = λ before after taken to some is. ((to, is), owed_where taken.to some);
-  exchanges = λ steps after are. given-exchanges 0 steps at_start (dialogue_of after) refl are;
+  exchanges = λ steps after are. given-exchanges 0 steps new_dialogue (dialogue_of after) refl are;
 }

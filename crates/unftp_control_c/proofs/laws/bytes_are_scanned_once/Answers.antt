@@ -7,14 +7,14 @@ use Rattle.unftp_control_codecs.specs.declared.FirstLine.TheVariants.{Incomplete
 use Rattle.unftp_control_codecs.specs.FirstLine.{reset}
 use Rattle.unftp_control_codecs.proofs.FirstLineLemmas.{scans_few}
 use Rattle.unftp_control_c.specs.Next.{given_for, Call, Left, codec_of, next_codec, scans}
-use Rattle.unftp_control_c.specs.Taking.{AreCallerSteps, Called, Caller, CallerStep, Received, after_call, after_piece, call_of, input_of, is_made_again, new_caller, scanned_by, unscanned}
+use Rattle.unftp_control_c.specs.Taking.{AreCallerSteps, Called, Caller, CallerStep, Received, after_call, after_piece, caller_call, input_of, is_made_again, new_caller, scanned_by, unscanned}
 use Rattle.unftp_control_c.proofs.CallLemmas.{NextLeft, invalid, asks, gave, Valid, left_so, once_given, valid_resumed, valid_with_piece}
 use Rattle.unftp_control_c.proofs.NextLemmas.{counts_of, offset_within}
 use Rattle.unftp_control_c.proofs.laws.bytes_are_scanned_once.Goals as goal
 
 module _ (now : Caller) (ok : Valid now) (area : Bytes) where
   abbrev call : Call
-  call = call_of now area
+  call = caller_call now area
 
   record Does (left : Left) : Type 0 where
     valid : Valid (after_call now left)
@@ -53,12 +53,12 @@ scanned_from (Received piece ∷ steps) now after ok are =
     omega (
       arith,
       later,
-      offset_within (call_of now []) ok,
+      offset_within (caller_call now []) ok,
       length-append now.bytes piece,
       length-append piece (input_of steps),
     )
 scanned_from (Called area left ∷ steps) now after ok are =
-    let did = does now ok area left (left_so (call_of now area) left are.0) in
+    let did = does now ok area left (left_so (caller_call now area) left are.0) in
     let later = scanned_from steps (after_call now left) after did.valid are.1 in
     omega (arith, later, did.count)
 

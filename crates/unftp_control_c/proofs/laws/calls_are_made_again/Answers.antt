@@ -5,11 +5,12 @@ use Rattle.unftp_control_defs.specs.Bytes.{Bytes}
 use Rattle.unftp_control_c.specs.declared.status.Status.TheVariants.{NoRoom, OutOfMemory}
 use Rattle.unftp_control_c.specs.Next.{Leaves, Left, given_for}
 use Rattle.unftp_control_c.specs.Numbers.{status_number}
-use Rattle.unftp_control_c.specs.Taking.{Caller, after_call, call_of, gives_none}
+use Rattle.unftp_control_c.specs.Taking.{Caller, after_call, caller_call, gives_none}
 use Rattle.unftp_control_c.proofs.CallLemmas.{NextLeft, asks, gave, no_room, gives_some, left_so}
 use Rattle.unftp_control_c.proofs.laws.calls_are_made_again.Goals as goal
 
-nothing_lost : (caller : Caller) (area : Bytes) (left : Left) → NextLeft (call_of caller area) left
+nothing_lost : (caller : Caller) (area : Bytes) (left : Left) → NextLeft
+    (caller_call caller area) left
     → (left.result ≡ status_number NoRoom) ⊎ (left.result ≡ status_number OutOfMemory)
     → after_call caller left ≡ caller
 nothing_lost caller area _ (asks n ok found) (inl is) = absurd (omega (arith, is))
@@ -19,9 +20,10 @@ nothing_lost caller area _ (gave first room) (inr is) = absurd ((gives_some _ fi
 nothing_lost caller area _ _ is = refl
 
 module _ (caller : Caller) (area wider : Bytes) (again : Left) where
-  in_time : (left : Left) → NextLeft (call_of caller area) left → left.result ≡ status_number NoRoom
+  in_time : (left : Left) → NextLeft (caller_call caller area) left → left.result
+      ≡ status_number NoRoom
       → left.line.name_len + left.line.value_len ≤ length wider
-      → Leaves (call_of caller wider) again
+      → Leaves (caller_call caller wider) again
       → (again.result ≡ status_number OutOfMemory) ⊎ (gives_none again.result ≡ false)
   in_time _ (no_room first small) is wide (inr ran_out) = inl (ap (λ l. l.result) ran_out.1)
   in_time _ (no_room first small) is wide (inl next) =
@@ -36,8 +38,8 @@ module _ (caller : Caller) (area wider : Bytes) (again : Left) where
 pub returns : goal.returns
 returns c = record {
   kept = λ caller area left leaves is.
-      nothing_lost caller area left (left_so (call_of caller area) left leaves) is;
+      nothing_lost caller area left (left_so (caller_call caller area) left leaves) is;
   room = λ caller area wider left again leaves is wide later.
-      in_time caller area wider again left (left_so (call_of caller area) left leaves) is wide
+      in_time caller area wider again left (left_so (caller_call caller area) left leaves) is wide
       later;
 }

@@ -12,7 +12,7 @@ use Rattle.unftp_control_codecs.proofs.FirstLineLemmas.{Finds, finds}
 use Rattle.unftp_control_c.specs.declared.status.Status.TheVariants.{More}
 use Rattle.unftp_control_c.specs.Next.{Call, Given, Left, at_next_line, codec_of, first_of, given_for, line_limit, next_codec}
 use Rattle.unftp_control_c.specs.Numbers.{status_number}
-use Rattle.unftp_control_c.specs.Taking.{AreCallerSteps, Called, Caller, CallerStep, Received, after_call, after_piece, all_given, call_of, given_by, gives_none, input_of, new_caller}
+use Rattle.unftp_control_c.specs.Taking.{AreCallerSteps, Called, Caller, CallerStep, Received, after_call, after_piece, all_given, caller_call, given_by, gives_none, input_of, new_caller}
 use Rattle.unftp_control_c.specs.declared.next.Connection.{Connection}
 use Rattle.unftp_control_c.proofs.CallLemmas.{NextLeft, Valid, invalid, asks, gave, given_is, gives_some, left_so, skipping_resumed, valid_resumed, valid_with_piece}
 use Rattle.unftp_control_c.proofs.NextLemmas.{counts_of}
@@ -62,7 +62,7 @@ record Does (limit : Option ℕ) (before : Bytes) (given : List Given) (after : 
 module _ {limit : Option ℕ} (now : Caller) (dropped : Bytes) (kept_so : IsKept limit now dropped)
     (area : Bytes) where
   abbrev call : Call
-  call = call_of now area
+  call = caller_call now area
 
   found_now : Finds (codec_of now.connection) dropped now.bytes (next_codec call) (first_of call)
   found_now = finds (codec_of now.connection) dropped now.bytes kept_so.within kept_so.lost
@@ -130,7 +130,7 @@ module _ (limit : Option ℕ) (after : Caller) where
             ∙ ap (λ bytes. map given_for (events limit bytes)) joined;
       }
   run_of (Called area left ∷ steps) now dropped kept_so are =
-      let step = does now dropped kept_so area left (left_so (call_of now area) left are.0) in
+      let step = does now dropped kept_so area left (left_so (caller_call now area) left are.0) in
       let run = run_of steps (after_call now left) step.rest step.rest_kept are.1 in
       record {
         rest = run.rest;
@@ -153,16 +153,17 @@ module _ (limited : ℕ) (after : Caller) (steps : List CallerStep)
 
 module _ {limit : Option ℕ} (now : Caller) (area dropped : Bytes)
     (kept_so : IsKept limit now dropped) where
-  uses_none : (left : Left) → NextLeft (call_of now area) left → left.line.used ≡ 0
+  uses_none : (left : Left) → NextLeft (caller_call now area) left → left.line.used ≡ 0
       → gives_none left.result ≡ true
   uses_none _ (invalid not_valid) used = absurd (false≢true (sym not_valid ∙ kept_so.valid))
   uses_none _ (gave first room) used = absurd (omega (arith, used, first.ends.ends))
   uses_none _ _ used = refl
 
-  asks_at_the_end : (left : Left) → NextLeft (call_of now area) left
+  asks_at_the_end : (left : Left) → NextLeft (caller_call now area) left
       → left.result ≡ status_number More → Lacks LF (dropped ++ now.bytes)
   asks_at_the_end _ (asks n ok found) is =
-      (subst (Finds (codec_of now.connection) dropped now.bytes (next_codec (call_of now area))) found
+      (subst (Finds (codec_of now.connection) dropped now.bytes
+          (next_codec (caller_call now area))) found
       (found_now now dropped kept_so area)).unended
   asks_at_the_end _ (gave first room) is = absurd ((gives_some _ first.some).0 is)
   asks_at_the_end _ _ is = absurd (omega (arith, is))
@@ -175,11 +176,11 @@ returns c = record {
       let before = run limit after steps are in
       let none = events-incomplete (line_limit limit) (before.rest ++ after.bytes)
       (asks_at_the_end after area before.rest before.rest_kept left
-      (left_so (call_of after area) left leaves) more) in
+      (left_so (caller_call after area) left leaves) more) in
       sym (append-nil (all_given steps)) ∙ ap (λ later. all_given steps ++ map given_for later)
       (sym none) ∙ before.in_order;
   nothing_used = λ limit steps after area left are leaves used.
       let before = run limit after steps are in
       uses_none after area before.rest before.rest_kept left
-      (left_so (call_of after area) left leaves) used;
+      (left_so (caller_call after area) left leaves) used;
 }

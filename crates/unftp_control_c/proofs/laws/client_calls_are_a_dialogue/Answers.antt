@@ -1,6 +1,6 @@
 -- Calls of a client in C are steps of its dialogue.
 use Rattle.std.proofs.Common.{◌≡◌, ◌&&◌, ◌==◌, Bool, true, false, List, [], ◌∷◌, ◌++◌, refl, ap, subst, eqb-true}
-use Rattle.unftp_control_client.specs.Dialogue.{at_start, commands_owed}
+use Rattle.unftp_control_client.specs.Dialogue.{new_dialogue, commands_owed}
 use Rattle.unftp_control_client.specs.Steps.{AreDialogueSteps, ClientStep}
 use Rattle.unftp_control_client.specs.declared.dialogue.Dialogue.{Dialogue}
 use Rattle.unftp_control_client.specs.declared.dialogue.To.{To}
@@ -49,11 +49,11 @@ returns c = record {
       (dialogue_of after, (to_said taken.to _ number place, is), refl);
   in_turn = λ first later before middle after are more. steps-append first later
       (dialogue_of before) (dialogue_of middle) (dialogue_of after) are more;
-  exchanges = λ steps after are. dialogue-exchanges steps at_start (dialogue_of after) are;
+  exchanges = λ steps after are. dialogue-exchanges steps new_dialogue (dialogue_of after) are;
   tls = λ steps after pending are may.
       let d = dialogue_of after in
       let all = all_three d.agreed (commands_owed d == 0) (pending == 0) may in (
-        ends_in_agreement steps at_start d refl refl refl are all.first
+        ends_in_agreement steps new_dialogue d refl refl refl are all.first
             (eqb-true (commands_owed d) 0 all.second),
         eqb-true pending 0 all.third,
       );

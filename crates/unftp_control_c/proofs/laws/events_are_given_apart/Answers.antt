@@ -6,7 +6,7 @@ use Rattle.std.proofs.lemmas.Fmt.{decimal_nonempty}
 use Rattle.unftp_control_defs.specs.Bytes.{Bytes, crlf}
 use Rattle.unftp_control_defs.specs.Canonical.{HasLine, HasRoom, canonical_body, canonical_line, site_body, with_option_end, with_optional}
 use Rattle.unftp_control_defs.specs.Events.{Fault, FtpEvent, Command, Refused, event_of, event_for, exceeds, line_too_long, refusal_fault}
-use Rattle.unftp_control_defs.specs.FtpCommand.{FtpCommand, User, Pass, Acct, List as Listing, Site, Other, Answer, Refusal, InvalidCommand, InvalidUtf8, InvalidEol, Value, Nothing, Raw, Text, Chosen, Number, maybe_raw, maybe_text, unless_empty, said}
+use Rattle.unftp_control_defs.specs.FtpCommand.{FtpCommand, User, Pass, Acct, List as Listing, Site, Other, Outcome, Refusal, InvalidCommand, InvalidUtf8, InvalidEol, Value, Nothing, Raw, Text, Chosen, Number, maybe_raw, maybe_text, unless_empty, said}
 use Rattle.unftp_control_defs.specs.Said.{HasTypedFields, IsTyped, choice_word, command_number, name_and_value, value_bytes}
 use Rattle.unftp_control_defs.specs.Lines.{IsLine}
 use Rattle.unftp_control_defs.specs.Outcome.{outcome}
@@ -124,7 +124,7 @@ refusal_kept InvalidCommand = refl
 refusal_kept InvalidUtf8 = refl
 refusal_kept InvalidEol = refl
 
-answer_kept : (line : Bytes) → IsLine line → (answer : Answer) → outcome line ≡ answer
+answer_kept : (line : Bytes) → IsLine line → (answer : Outcome) → outcome line ≡ answer
     → event_given (given_for (event_of answer)) ≡ event_of answer
 answer_kept line is_line (Ok command) read =
     command_kept command (HasLine-outcome line command is_line read)
@@ -174,7 +174,7 @@ fault_numbered_so : (made fault : Fault)
 fault_numbered_so made fault so e =
     subst (λ f. IsNumberOf f.kind (given_for (Refused f)).number) (same_fault made fault e) so
 
-answer_numbered : (answer : Answer) (fault : Fault) → event_of answer ≡ Refused fault
+answer_numbered : (answer : Outcome) (fault : Fault) → event_of answer ≡ Refused fault
     → IsNumberOf fault.kind (given_for (Refused fault)).number
 answer_numbered (Ok command) fault e = absurd (cc)
 answer_numbered (Err refusal) fault e =

@@ -4,7 +4,7 @@ use Rattle.std.specs.Prelude.{if◌then◌else◌}
 use Rattle.std.specs.List.{AllByRecursion}
 use Rattle.unftp_control_defs.specs.Bytes.{Bytes}
 use Rattle.unftp_control_defs.specs.Events.{Refused, event_of, exceeds, line_too_long}
-use Rattle.unftp_control_defs.specs.FtpCommand.{Answer, InvalidCommand, InvalidEol, InvalidUtf8, User}
+use Rattle.unftp_control_defs.specs.FtpCommand.{Outcome, InvalidCommand, InvalidEol, InvalidUtf8, User}
 use Rattle.unftp_control_defs.specs.Outcome.{outcome}
 use Rattle.unftp_control_log.specs.Known.{known}
 use Rattle.unftp_control_log.specs.LogLine.{IsPrintable, log_line, logged}
@@ -15,7 +15,7 @@ use Rattle.unftp_control_c.specs.LogLines.{numbered_log_line}
 use Rattle.unftp_control_c.proofs.laws.log_lines_are_logged.Goals as goal
 
 -- no event of a line within the limit has the number of one that is too long
-number_apart : (answer : Answer) → ((given_for (event_of answer)).number == 105) ≡ false
+number_apart : (answer : Outcome) → ((given_for (event_of answer)).number == 105) ≡ false
 number_apart (Ok (User name)) = refl
 number_apart (Ok command) = refl
 number_apart (Err InvalidCommand) = refl

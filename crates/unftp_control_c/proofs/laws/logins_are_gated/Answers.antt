@@ -15,7 +15,7 @@ use Rattle.unftp_control_c.specs.Numbers.{fault_status, source_status, status_nu
 use Rattle.unftp_control_c.specs.Logins.{Kept, after_event, decision_at, kept_after, kept_after_all, login_step, nobody, not_asked, progress_of, stage_by, stage_number, stage_of, step_at_command}
 use Rattle.unftp_control_c.specs.declared.login.Progress.{Progress}
 use Rattle.unftp_control_c.specs.declared.login.Progress.TheVariants.{NoName, Named, LoggedIn, Asked}
-use Rattle.unftp_control_c.specs.declared.login.Step.TheVariants.{PassOn}
+use Rattle.unftp_control_c.specs.declared.login.LoginStep.TheVariants.{PassOn}
 use Rattle.unftp_control_c.proofs.laws.logins_are_gated.Goals as goal
 
 -- ---- one event

@@ -6,16 +6,16 @@ use Rattle.unftp_control_codecs.specs.Codec.{is_too_long}
 use Rattle.unftp_control_c.specs.declared.status.Status.TheVariants.{More}
 use Rattle.unftp_control_c.specs.Next.{Call, Left, codec_of}
 use Rattle.unftp_control_c.specs.Numbers.{status_number}
-use Rattle.unftp_control_c.specs.Taking.{Caller, after_call, call_of}
+use Rattle.unftp_control_c.specs.Taking.{Caller, after_call, caller_call}
 use Rattle.unftp_control_c.proofs.CallLemmas.{NextLeft, invalid, asks, gave, gives_some, left_so, within_limit}
 use Rattle.unftp_control_c.proofs.NextLemmas.{counts_of}
 use Rattle.unftp_control_c.proofs.laws.pending_bytes_are_bounded.Goals as goal
 
 module _ (caller : Caller) (some : 1 ≤ caller.connection.limit) (area : Bytes) where
-  few : (left : Left) → NextLeft (call_of caller area) left → left.result ≡ status_number More
+  few : (left : Left) → NextLeft (caller_call caller area) left → left.result ≡ status_number More
       → length (after_call caller left).bytes < caller.connection.limit
   few _ (asks n ok found) is =
-      by_kept (counts_of (call_of caller area) ok (Incomplete n) found).kept_short
+      by_kept (counts_of (caller_call caller area) ok (Incomplete n) found).kept_short
     where
       by_kept : (n ≡ length caller.bytes)
           ⊎ (is_too_long (codec_of caller.connection) (length caller.bytes + 1) ≡ false)
@@ -39,7 +39,7 @@ same_limit call _ _ = refl
 pub returns : goal.returns
 returns c = record {
   fewer = λ caller area left leaves more some.
-      few caller some area left (left_so (call_of caller area) left leaves) more;
+      few caller some area left (left_so (caller_call caller area) left leaves) more;
   limit = λ caller area left leaves.
-      same_limit (call_of caller area) left (left_so (call_of caller area) left leaves);
+      same_limit (caller_call caller area) left (left_so (caller_call caller area) left leaves);
 }

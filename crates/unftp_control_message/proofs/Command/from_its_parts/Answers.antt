@@ -1,5 +1,5 @@
 use Rattle.std.proofs.Common.{◌≡◌, Ok}
-use Rattle.unftp_control_defs.specs.Said.{answer_of}
+use Rattle.unftp_control_defs.specs.Said.{outcome_of}
 use Rattle.unftp_control_message.specs.CommandMeaning.{command_of}
 use Rattle.unftp_control_message.specs.PartsMeaning.{said_of, spelled}
 use Rattle.unftp_control_message.proofs.HeldLemmas.{holds_some, ran_out}
@@ -8,7 +8,7 @@ use Rattle.unftp_control_message.proofs.Command.from_its_parts.Goals as goal
 
 pub returns-in-Ok-clause-ok : goal.returns-in-Ok-clause-ok
 returns-in-Ok-clause-ok c =
-    let again : answer_of (said_of c.parts.result) ≡ Ok (command_of c.args.self.now) =
+    let again : outcome_of (said_of c.parts.result) ≡ Ok (command_of c.args.self.now) =
     its_parts (command_of c.args.self.now) (spelled c.parts.result) c.requires
     c.parts.ensures.says in
     cc (again, c.in-Ok.ensures)

@@ -1,6 +1,6 @@
 use Rattle.std.proofs.Common.{[], codes, refl}
 use Rattle.unftp_control_serve.specs.Writing.{appended_output}
-use Rattle.example_callers.proofs.LogLemmas.{Sent-nothing}
+use Rattle.example_callers.proofs.LogLemmas.{IsSent-nothing}
 use Rattle.example_callers.proofs.examples.log.a_log_stops_so.Goals as goal
 
 pub returns-clause-memory : goal.returns-clause-memory
@@ -10,6 +10,6 @@ returns-clause-memory c = record {
   later = [];
   split = refl;
   between = appended_output (codes "x");
-  sent = Sent-nothing (appended_output (codes "x"));
+  sent = IsSent-nothing (appended_output (codes "x"));
   fails = refl;
 }

@@ -14,7 +14,7 @@ use Rattle.unftp_control.specs.declared.command.Command.TheVariants as command
 use Rattle.unftp_control.specs.declared.serve.Event.TheVariants as event
 use Rattle.unftp_control.proofs.LineLemmas.{Lines-lines_of}
 use Rattle.example_callers.specs.FactList.{facts_asked}
-use Rattle.example_callers.specs.WholeLine.{AsksFor, modes_after, reply_to}
+use Rattle.example_callers.specs.WholeLine.{AsksFor, modes_after, line_reply}
 use Rattle.example_callers.specs.declared.whole_line.Asked.{Asked}
 use Rattle.example_callers.specs.declared.whole_line.Asked.TheVariants.{Ascii, Image, EpsvOnly, FactsOnly, Nothing}
 use Rattle.unftp_control_defs.proofs.Computing.{at_bytes}
@@ -86,7 +86,7 @@ returns-clause-line c = λ modes modes' after sent' answers.
       taken.1,
       answers.modes_are ∙ (λ i. modes_after modes (taken.0 i) (asked i)),
       answers.appended
-          ∙ (λ i. codes "x" ++ encoded (reply_to modes.epsv_only (taken.0 i) (asked i))),
+          ∙ (λ i. codes "x" ++ encoded (line_reply modes.epsv_only (taken.0 i) (asked i))),
     )
 
 pub returns-clause-no_line : goal.returns-clause-no_line

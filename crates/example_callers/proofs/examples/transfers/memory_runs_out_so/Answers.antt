@@ -4,14 +4,15 @@ use Rattle.unftp_control_defs.specs.Bytes.{Bytes}
 use Rattle.example_callers.specs.DataAnswers.{DataAnswer, Opened, Gave, ReceiveFailed}
 use Rattle.example_callers.specs.CameTo.{CameTo, UnderWay, RanOut}
 use Rattle.example_callers.specs.TransferExamples.{abc, all_received}
-use Rattle.example_callers.specs.Transfers.{Outcome, receiving, with_opening}
+use Rattle.example_callers.specs.Transfers.{TransferOutcome, receiving, with_opening}
 use Rattle.example_callers.specs.declared.transfers.transfer.Ending.{Ending}
 use Rattle.example_callers.specs.declared.transfers.transfer.Ending.TheVariants.{Complete}
 use Rattle.example_callers.specs.declared.transfers.transfer.Transfer.TheVariants.{Store}
 use Rattle.example_callers.proofs.TransferLemmas.{cut_off, opened}
 use Rattle.example_callers.proofs.examples.transfers.memory_runs_out_so.Goals as goal
 
-used_all : (outcome : List DataAnswer → Outcome) (after later : List DataAnswer) (ending : Ending)
+used_all : (outcome : List DataAnswer → TransferOutcome) (after later : List DataAnswer)
+    (ending : Ending)
     (bytes : Bytes) → CameTo outcome [] after ending bytes
     → (outcome (after ++ later)).used ≡ length after
 used_all outcome after later ending bytes came =

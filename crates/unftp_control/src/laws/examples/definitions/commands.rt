@@ -5,7 +5,7 @@ ghost use Rattle.std.specs.Prelude.{◌≡◌, [], ◌∷◌, Err, Ok, Option, S
 ghost use Rattle.unftp_control_defs.specs.Bytes.{Bytes};
 ghost use Rattle.unftp_control_defs.specs.Canonical.{HasLine, canonical_line, IsUpperCaseName, IsNonEmptyText, IsOptionalText};
 ghost use Rattle.unftp_control_defs.specs.FtpCommand.{Allo, InvalidCommand, List as Listing, Md5, Noop, Other, Rest, Retr, Site, TypeCode, User, Nothing, Number, Raw, Text, plain, said};
-ghost use Rattle.unftp_control_defs.specs.Said.{HasTypedFields, Tells, answer_of, word_and_value};
+ghost use Rattle.unftp_control_defs.specs.Said.{HasTypedFields, MeansCommand, outcome_of, word_and_value};
 ghost use Rattle.unftp_control_defs.specs.declared.verb.Verb.TheVariants as verb;
 
 /// Texts are UTF-8, an offset has 64 bits, and of bytes nothing is asked.
@@ -24,10 +24,10 @@ pub fn fields_are_of_their_types()
 pub fn commands_say_a_verb_and_a_value()
     ensures text { said (Retr (codes "a")) ≡ plain verb.Retr (Text (codes "a")) }
     ensures empty_name { said (User []) ≡ plain verb.User Nothing }
-    ensures number { answer_of (plain verb.Rest (Number 5)) ≡ Ok (Rest 5) }
-    ensures digits { answer_of (plain verb.Rest (Text (codes "5"))) ≡ Err InvalidCommand }
-    ensures told { Tells (Ok Noop) (plain verb.Noop Nothing) }
-    ensures empty_raw { ¬ Tells (Ok (User [])) (plain verb.User (Raw [])) }
+    ensures number { outcome_of (plain verb.Rest (Number 5)) ≡ Ok (Rest 5) }
+    ensures digits { outcome_of (plain verb.Rest (Text (codes "5"))) ≡ Err InvalidCommand }
+    ensures told { MeansCommand (Ok Noop) (plain verb.Noop Nothing) }
+    ensures empty_raw { ¬ MeansCommand (Ok (User [])) (plain verb.User (Raw [])) }
     ensures subcommand { word_and_value (said (Md5 (codes "a")))
         ≡ (codes "MD5", Some (codes "a")) }
 {}

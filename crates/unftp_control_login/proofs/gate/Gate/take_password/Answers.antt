@@ -3,7 +3,7 @@ use Rattle.std.proofs.lemmas.List.{append-nil}
 use Rattle.std.proofs.lemmas.Result.{on_ok_weaker}
 use Rattle.unftp_control_defs.specs.Events.{Command}
 use Rattle.unftp_control_defs.specs.FtpCommand.{Pass}
-use Rattle.unftp_control_login.specs.Gate.{left_after, limited, name_needed, not_accepted}
+use Rattle.unftp_control_login.specs.Gate.{attempts_after, limited, name_needed, not_accepted}
 use Rattle.unftp_control_login.proofs.GateLemmas.{at-name, gate-answers, no-name, no-quit, on-ok, refused-stays}
 use Rattle.unftp_control_login.proofs.gate.Gate.take_password.Goals as goal
 
@@ -21,7 +21,7 @@ returns-in_default g c =
           (g.H.Session.law w) old c.refuse.new.self (Command (Pass c.args.password.now))
           c.refuse.result (ap (limited left true) none.0) (refuse.decided w)
           (ap (λ asked. g.A.Accounts.accepts asked.accounts) refuse.kept.0)
-          (refuse.left ∙ ap (left_after left true) (sym none.0))
+          (refuse.left ∙ ap (attempts_after left true) (sym none.0))
           (on-ok c.refuse.result (stage ∙ sym none.1)) (refuse.kept.2 ∙ no-quit old.quit)
           (refuse.kept.3 ∙ refused-stays left name_needed);
       asked = ap (λ asked. asked.questions) refuse.kept.0 ∙ sym (append-nil old.accounts.questions)
@@ -43,7 +43,7 @@ returns-then-not-ask-clause-answers g c = λ w so.
     c.refuse-then-not-ask.result (ap (limited left true) at.0) (refuse.decided w)
     (ap (λ asked. g.A.Accounts.accepts asked.accounts) refuse.kept.0
     ∙ ap g.A.Accounts.accepts c.ask.ensures.accounts)
-    (refuse.left ∙ ap (left_after left true) (sym at.0))
+    (refuse.left ∙ ap (attempts_after left true) (sym at.0))
     (on-ok c.refuse-then-not-ask.result (refuse.kept.1 ∙ c.replace.ensures.after ∙ sym at.1))
     (refuse.kept.2 ∙ no-quit old.quit) (refuse.kept.3 ∙ refused-stays left not_accepted)
 
@@ -61,6 +61,6 @@ returns-clause-answers g c = λ w so.
     (ap (limited left true) at.0) (admit.decided w so)
     (ap (λ asked. g.A.Accounts.accepts asked.accounts) admit.kept.0
     ∙ ap g.A.Accounts.accepts c.ask.ensures.accounts)
-    (ap (λ limit. limit.left) admit.kept.1 ∙ ap (left_after left true) (sym at.0))
+    (ap (λ limit. limit.left) admit.kept.1 ∙ ap (attempts_after left true) (sym at.0))
     (on_ok_weaker c.admit.result (λ stage. stage ∙ sym at.1) admit.stage)
     (admit.kept.2 ∙ no-quit old.quit) admit.kept.3

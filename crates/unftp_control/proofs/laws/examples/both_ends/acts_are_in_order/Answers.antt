@@ -3,7 +3,7 @@ use Rattle.std.proofs.Math.Seq.{take-append_seam}
 use Rattle.std.specs.Fmt.{digits}
 use Rattle.std.specs.Str.{is_utf8, chars}
 use Rattle.unftp_control_defs.proofs.LineLemmas.{Lines-lines_of}
-use Rattle.unftp_control_client.specs.Steps.{Sent}
+use Rattle.unftp_control_client.specs.Steps.{SentLine}
 use Rattle.unftp_control.specs.Acts.{Act, AtClient, AtServer, InOrder}
 use Rattle.unftp_control.specs.ClientRuns.{client_with, dialogue, farewell_server, noop}
 use Rattle.unftp_control.proofs.laws.examples.both_ends.acts_are_in_order.Goals as goal
@@ -13,7 +13,7 @@ unfolding is_utf8 chars lib.Utf8.encode digits
 returns-clause-all c = record { to_server = ([], refl); to_client = ([], refl) }
 
 first_acts : List Act
-first_acts = AtClient (Sent noop) ∷ AtServer (codes "NO") ∷ []
+first_acts = AtClient (SentLine noop) ∷ AtServer (codes "NO") ∷ []
 
 by_length : (n : ℕ) → n ≤ 2 → InOrder farewell_server (take n first_acts)
 unfolding first_acts digits
@@ -36,5 +36,5 @@ returns-clause-conversation c = record {
 
 pub returns-clause-came_first : goal.returns-clause-came_first
 returns-clause-came_first c = λ client talked.
-    let first = talked.in_order (AtServer (codes "NO") ∷ []) (AtClient (Sent noop) ∷ []) refl in
+    let first = talked.in_order (AtServer (codes "NO") ∷ []) (AtClient (SentLine noop) ∷ []) refl in
     omega (arith, ap length first.to_server.1)

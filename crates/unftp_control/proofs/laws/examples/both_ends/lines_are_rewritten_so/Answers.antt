@@ -1,10 +1,10 @@
 use Rattle.std.proofs.Common.{◌≡◌, [], Ok, codes}
-use Rattle.unftp_control_defs.specs.FtpCommand.{Answer, Noop, Quit}
+use Rattle.unftp_control_defs.specs.FtpCommand.{Outcome, Noop, Quit}
 use Rattle.unftp_control_defs.specs.Lines.{IsLine}
 use Rattle.unftp_control_defs.proofs.LineLemmas.{Lines-lines_of, line_first}
 use Rattle.unftp_control.proofs.laws.examples.both_ends.lines_are_rewritten_so.Goals as goal
 
-apart : ◌≡◌ {A = Answer} (Ok Noop) (Ok Quit) → ⊥
+apart : ◌≡◌ {A = Outcome} (Ok Noop) (Ok Quit) → ⊥
 apart e = cc
 
 two_lines : IsLine (codes "NOOP\nNOOP\n") → ⊥
