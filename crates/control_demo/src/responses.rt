@@ -9,7 +9,9 @@ ghost use Rattle.unftp_control_serve.specs.EventMeaning.{event_meant};
 ghost use Rattle.control_demo.specs.Responses.{command_reply, event_reply, not_implemented, responses_law};
 
 use std::alloc::Global;
-use unftp_control_commands::{Auth, Epsv, Feat, Help, Mode, Opts, Passive, Prot, Stru, facts_reply};
+use unftp_control_commands::{
+    Auth, Epsv, Feat, Help, Mode, Opts, Passive, Prot, Stru, facts_reply,
+};
 use unftp_control_message::Command;
 use unftp_control_message::reply::error::{ControlChanError, Source};
 use unftp_control_message::reply::{Reply, ReplyCode};

@@ -40,7 +40,7 @@ module _ {start : List DataAnswer → TransferOutcome} {before now : List DataAn
         ≡ outcome.used + length (s.answers ++ answer ∷ []) =
         omega (arith, length-append s.answers (answer ∷ [])) in
         let came : TransferOutcome = preceded_by (length s.answers) bytes
-            (preceded_by 1 piece outcome) in
+        (preceded_by 1 piece outcome) in
         ap start (append_assoc s.answers (answer ∷ []) later)
         ∙ s.goes_on (answer ∷ later)
         ∙ ap (preceded_by (length s.answers) bytes) (goes later)

@@ -29,7 +29,7 @@ module _ (before after : List DataAnswer) where
   abbrev pub WasMade : Transfer → Bytes → Type 0
   WasMade transfer bytes =
       (ending : Ending) × (moved : Bytes) × CameTo
-          (transfer_outcome transfer bytes) before after ending moved
+      (transfer_outcome transfer bytes) before after ending moved
 
   -- STOR received some bytes, and was not at its end.
   abbrev pub IsCutOff : Type 0

@@ -33,7 +33,7 @@ pub fn serve_file<R: Read, W: Write, A: Accounts + Drop, D: DataConnection + Dro
         (Serves (Some 4096) (gated_law (transfers_law answers))
         (snapshot (limited_to 3 (closed (A.accepts accounts)
         (new_transfer (D.answers connection) file.items))) 0
-            (output_state_of W.contents writer.old))
+        (output_state_of W.contents writer.old))
         (snapshot state failures (output_state_of W.contents writer.new))
         (input_state_of R.remaining reader.old) (input_state_of R.remaining reader.new)) }
     // 150 and 226 come only after a name and a password that the accounts accept
@@ -48,7 +48,7 @@ pub fn serve_file<R: Read, W: Write, A: Accounts + Drop, D: DataConnection + Dro
         (ServeEnded (Some 4096) (gated_law (transfers_law answers))
         (snapshot (limited_to 3 (closed (A.accepts accounts)
         (new_transfer (D.answers connection) file.items))) 0
-            (output_state_of W.contents writer.old))
+        (output_state_of W.contents writer.old))
         (snapshot state failures (output_state_of W.contents writer.new))
         (input_state_of R.remaining reader.old) (input_state_of R.remaining reader.new)) }
 {

@@ -50,7 +50,7 @@ pub joined_octets : (separator : ℕ) → is_ascii_digit separator ≡ false →
 joined_octets separator h n [] small all = one separator (decimal n) n h (octet_decimal n small)
 joined_octets separator h n (m ∷ ns) small all =
     ap octets (slice_split_at (λ b. b == separator) (decimal n) separator
-        (joined_numbers separator (m ∷ ns))
+    (joined_numbers separator (m ∷ ns))
     (digits_unsplit separator (decimal n) h (decimal_digits n (omega (arith, small))))
     (eq-eqb separator separator refl))
     ∙ ap (λ first. onto first (octets_between separator (joined_numbers separator (m ∷ ns))))

@@ -35,7 +35,7 @@ module _ {S : Type 0} (law : SessionLaw S) (s : Gated S) (event : FtpEvent) wher
   Turns decision sent inner =
       (reply_by law s.inner decision
       ∷ turn_replies (if is_passed decision then law.more (state_by law s.inner decision) else [])
-          ≡ sent)
+      ≡ sent)
       × (state_after (state_by law s.inner decision)
       (if is_passed decision then law.more (state_by law s.inner decision) else []) ≡ inner)
 

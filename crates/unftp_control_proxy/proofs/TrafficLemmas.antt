@@ -127,7 +127,7 @@ module _ {limits : Limits} {later : ProxyState} {traffic : Traffic}
       → length (filter is_final (client_replies traffic.steps)) ≡ suc (length traffic.lines)
   all_complete greeted none_owed none_held =
       let counted = each_complete new_dialogue later.dialogue
-          (forwarding_steps traffic.steps) refl refl
+      (forwarding_steps traffic.steps) refl refl
       is.steps greeted none_owed in
       let fates : fates_of traffic.lines ≡ fates_in traffic.steps = is.fates
       ∙ ap (λ answer. fates_in traffic.steps ++ held_fate answer) none_held

@@ -236,7 +236,7 @@ module _ {S : Type 0} (law : SessionLaw S) where
         replying.split ∙ ap (λ more. sent ++ more) none ∙ append-nil sent in
         let whole : text_of law m.state (e ∷ []) ≡ flat_map encoded (turn_replies sent) =
         ap (flat_map encoded)
-            (append-nil (turn_replies (turn law m.state e)) ∙ ap turn_replies all) in
+        (append-nil (turn_replies (turn law m.state e)) ∙ ap turn_replies all) in
         record {
           ends_at = state ∙ replying.state ∙ ap (state_after m.state) (sym all);
           given = rw whole (HasAnswered-end replying.given

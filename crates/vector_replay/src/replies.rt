@@ -4,11 +4,11 @@ use crate::lines::read_command;
 use crate::shown::Quoted;
 use crate::words::{CaseError, Word, Words};
 use std::alloc::Global;
+use unftp_control_codecs::{encode_lines, encode_reply};
 use unftp_control_commands::{
     Auth, Epsv, Feat, Help, Mode, Opts, Passive, Prot, SessionChange, Stru, make_epsv_reply,
     quoted_path, single_line_text,
 };
-use unftp_control_codecs::{encode_lines, encode_reply};
 use unftp_control_message::Command;
 use unftp_control_message::reply::error::ControlChanError;
 use unftp_control_message::reply::{Reply, ReplyCode};

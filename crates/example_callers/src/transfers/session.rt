@@ -204,7 +204,7 @@ impl<D: DataConnection> Session for Transfers<D> {
         ensures answers { (said : List DataAnswer) → Begins said (D.answers self.new.connection)
             → FurtherAnswer (transfers_law said) (state_of D.answers self.old)
             (state_of D.answers self.new) (transfer_failures self.old)
-                (transfer_failures self.new) left_in
+            (transfer_failures self.new) left_in
             result }
         ensures kept { OnErr result (self.new.file.items ≡ self.old.file.items) }
         ensures ran_out { OnErr result (IfSome self.old.pending (λ transfer.

@@ -11,6 +11,6 @@ invariant-loop-piece g l = (said : List g.H.Session.Said)
     → Begins said (g.H.Session.heard l.handler)
     → AnsweredSoFar None (g.H.Session.law said)
     (snapshot_at_start (g.H.Session.state l.fn.handler) (g.H.Session.failures l.fn.handler)
-        (Some []))
+    (Some []))
     (snapshot_with g.H.Session.state g.H.Session.failures appended_state_of l.handler l.replies)
     (concat (map (λ piece. piece.now) (take l.piece-index l.pieces))) l.engine

@@ -163,7 +163,7 @@ module _ {limit : Option ℕ} (now : Caller) (area dropped : Bytes)
       → left.result ≡ status_number More → Lacks LF (dropped ++ now.bytes)
   asks_at_the_end _ (asks n ok found) is =
       (subst (Finds (codec_of now.connection) dropped now.bytes
-          (next_codec (caller_call now area))) found
+      (next_codec (caller_call now area))) found
       (found_now now dropped kept_so area)).unended
   asks_at_the_end _ (gave first room) is = absurd ((gives_some _ first.some).0 is)
   asks_at_the_end _ _ is = absurd (omega (arith, is))

@@ -22,10 +22,10 @@ loop-turn-preserved g c = record {
   heard = Begins-trans _ _ _ c.in_ok-feed.ensures.heard c.loop-turn.invariant.heard;
   serving = λ w so.
       let before = c.loop-turn.invariant.serving w
-          (Begins-trans w _ _ so c.in_ok-feed.ensures.heard) in
+      (Begins-trans w _ _ so c.in_ok-feed.ensures.heard) in
       let is = c.in_ok-feed.ensures.fed before.running w so in
       let on = ap (λ engine. engine.finished) (sym is) ∙ sym c.finished-is_over.ensures
-          ∙ c.if-is_over.false in
+      ∙ c.if-is_over.false in
       rw is (Serving-next _ before _ c.in-Some.ensures _
       (c.in_ok-feed.ensures.outcome before.running w so) on);
 }
@@ -35,7 +35,7 @@ returns-then-is_over-clause-ok g c =
     let before = c.loop-turn.invariant.serving _ c.in_ok-feed.ensures.heard in
     let is = c.in_ok-feed.ensures.fed before.running _ (Begins-refl _) in
     let done = ap (λ engine. engine.finished) (sym is) ∙ sym c.finished-is_over.ensures
-        ∙ c.if-is_over.true in
+    ∙ c.if-is_over.true in
     Serving-done _ before _ c.in-Some.ensures _
     (c.in_ok-feed.ensures.outcome before.running _ (Begins-refl _))
     (rw is at c.served_by-then-is_over.ensures) done

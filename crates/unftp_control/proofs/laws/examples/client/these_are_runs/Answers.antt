@@ -26,7 +26,7 @@ returns-clause-unasked c = (
 pub returns-clause-settled_by_150 : goal.returns-clause-settled_by_150
 returns-clause-settled_by_150 c = λ client are.
     let steps : List ClientStep = SentLine retr ∷ SentLine noop ∷ Received
-        (codes "220\r\n150\r\n226\r\n")
+    (codes "220\r\n150\r\n226\r\n")
     ∷ Took (reply_with 220 Greeting) ∷ Took (reply_with 150 (Command 0))
     ∷ Took (reply_with 226 (Command 1)) ∷ [] in
     let exchanges = steps-exchanges steps (new_client None) client are in
