@@ -11,7 +11,6 @@ use denote.Steps.{nothing}
 use denote.Struct.Struct.{within}
 use Rattle.example_callers.specs.DataAnswers.{DataAnswer}
 use Rattle.example_callers.specs.contracts.transfers.answers.Answers.{the_row, the_view, the_invariant}
-use Rattle.example_callers.specs.DataAnswers.{DataAnswer}
 use Rattle.example_callers.specs.contracts.transfers.answers.Answers.TheInside as Inside
 use Rattle.example_callers.specs.declared.transfers.answers.Answers.TheInside as Fields
 
