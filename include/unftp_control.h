@@ -33,7 +33,7 @@ extern "C" {
 
 /* The version that this header is of: major * 1,000,000 + minor * 1,000 + patch. */
 #define UNFTP_VERSION_MAJOR 0
-#define UNFTP_VERSION_MINOR 2
+#define UNFTP_VERSION_MINOR 3
 #define UNFTP_VERSION_PATCH 0
 #define UNFTP_VERSION \
     (UNFTP_VERSION_MAJOR * 1000000 + UNFTP_VERSION_MINOR * 1000 + UNFTP_VERSION_PATCH)
@@ -116,13 +116,14 @@ enum unftp_result {
     /* No line whose one line feed is its last byte is read as this command; or, of unftp_forward,
        the bytes are no such line. */
     UNFTP_NO_LINE = 108,
-    /* The first line opens no reply. */
+    /* The first line, or the first after some replies, opens no reply. */
     UNFTP_MALFORMED = 109,
     /* No reply has this code: it is not from 100 to 599. */
     UNFTP_UNKNOWN_CODE = 110,
     /* No call leaves such a connection: its offset is past the bytes, or is not 0 while bytes are
        skipped, or skipping is greater than 1. Or as many lines were noted as 64 bits count; or the
-       accounts were not asked; or an address has no such form, length or port. */
+       accounts were not asked; or an address has no such form, length or port; or what is shown of
+       a line is not printable. */
     UNFTP_INVALID_ARGUMENT = 111,
     /* The text has no such address. */
     UNFTP_NO_ADDRESS = 112,
@@ -453,6 +454,35 @@ uint32_t unftp_is_clear(const char *line, size_t line_len) UNFTP_NONNULL;
  */
 enum unftp_result unftp_log_line(uint32_t number, const char *line, size_t line_len,
                                  char *out, size_t out_room, size_t *len) UNFTP_NONNULL;
+
+/*
+ * Writes what a log shows of an exchange, a line of a client and its replies, to the start of out,
+ * without a line end, and *len is how many bytes it has: the line, `->`, and the replies with ` | `
+ * between two of them. A reply is its code, and after a space its text, if any, escaped as by
+ * unftp_log_line, with an escaped CR LF between two lines.
+ *
+ *     shown        replies                                     the line of the log
+ *     USER bob     331 Need password\r\n                       USER bob -> 331 Need password
+ *     RETR a       150 Opening\r\n226 Done\r\n                 RETR a -> 150 Opening | 226 Done
+ *                  220-Hello\r\n220 \xe9\r\n                   -> 220 Hello\r\n\xe9
+ *     ***          530\r\n                                     *** -> 530
+ *     RETR a                                                   RETR a ->
+ *
+ * shown is what unftp_log_line wrote for the line: keep that until the replies come, and not the
+ * line, which may have a password. Where it has no bytes, the replies are to no line, as the
+ * greeting. The replies are their bytes, one after the other, with what unftp_front_reply says that
+ * each takes; there may be none. A server may repeat in a reply what was hidden of a line. To hide
+ * the text of a reply, pass its three digits and a CR LF.
+ *
+ * It returns UNFTP_DONE; UNFTP_INVALID_ARGUMENT exactly where a byte of shown is no printable ASCII
+ * (0x20 to 0x7e), so that each byte that is written is; or else UNFTP_MORE where the last reply is
+ * incomplete, or UNFTP_MALFORMED where a reply is malformed; or else UNFTP_NO_ROOM, where *len is
+ * the room that is needed. UNFTP_OUT_OF_MEMORY may come in place of all but UNFTP_INVALID_ARGUMENT.
+ * out is as it was but at UNFTP_DONE. It needs at most shown_len + 4 replies_len + 3.
+ */
+enum unftp_result unftp_log_exchange(const char *shown, size_t shown_len,
+                                     const char *replies, size_t replies_len,
+                                     char *out, size_t out_room, size_t *len) UNFTP_NONNULL;
 
 /*
  * Notes the line of a command that a client sends: call it once for each line, in the order in

@@ -8,6 +8,7 @@ usage: tools/checks/embedding.py sessions|session SERVER..        the replies of
        tools/checks/embedding.py read|canonical|forward REPLAY..    the replies that servers wrote; the lines that are written for clients' lines
        tools/checks/embedding.py addresses REPLAY..                 the addresses of the rows by hand, which are also written and read back; and
                                                              those that servers named
+       tools/checks/embedding.py exchanges REPLAY..                 the lines of a log for exchanges, of the rows by hand
        tools/checks/embedding.py valgrind LOG..                     whether each process ended without an error
        tools/checks/embedding.py numbers                            the numbers of the header and of bindings/rust are the definition's, and those
                                                              of replies also the documents'
@@ -394,8 +395,17 @@ def check_addresses(*program):
     return f"{len(by_hand)} rows, {len(read_back)} texts read back, {len(named)} replies of servers"
 
 
-# the vector files with lines and streams that clients sent, and those with texts of replies and of addresses
-INPUT_FILES = [*LINE_FILES, "decode.tsv", "client_streams.tsv", "encode.tsv", "addresses.tsv"]
+def check_exchanges(*program):
+    """The rows by hand; REPLAY may skip those that are of a room."""
+    asked = rows("exchanges.tsv")
+    compared, without_room = len(compare(program, asked)), sum(row.case.split("\t")[1] == "any" for row in asked)
+    if compared not in [len(asked), without_room]:
+        raise Wrong(f"{compared} of {len(asked)} rows are compared, of which {without_room} are of no room")
+    return f"{compared} rows"
+
+
+# the vector files with lines and streams that clients sent, and those with texts of replies, of addresses and of exchanges
+INPUT_FILES = [*LINE_FILES, "decode.tsv", "client_streams.tsv", "encode.tsv", "addresses.tsv", "exchanges.tsv"]
 
 
 # the lengths of long texts; under valgrind, of which only the first
@@ -775,6 +785,7 @@ CHECKS = {
     "canonical": check_canonical,
     "forward": check_forward,
     "addresses": check_addresses,
+    "exchanges": check_exchanges,
     "valgrind": check_valgrind,
     "numbers": check_numbers,
     "structs": check_structs,

@@ -17,6 +17,10 @@ pub enum Error {
     NotALine,
     /// The first line of what a server sent opens no reply.
     MalformedReply,
+    /// The last of some replies is incomplete.
+    IncompleteReply,
+    /// What is shown of a line is not printable ASCII.
+    NotPrintable,
     /// The first reply of what a server sent has more bytes than the limit.
     ReplyTooLong,
     /// As many lines were sent as 64 bits count.
@@ -29,12 +33,16 @@ impl Error {
         match status {
             ffi::OUT_OF_MEMORY => Error::OutOfMemory,
             ffi::NO_LINE => Error::NoLine,
+            ffi::MORE => Error::IncompleteReply,
+            ffi::MALFORMED => Error::MalformedReply,
+            // of unftp_log_exchange: unftp_write_address is only called so that it doesn't return it
+            ffi::INVALID_ARGUMENT => Error::NotPrintable,
             _ => match Refusal::of_status(status) {
                 Some(refusal) => Error::Refused(refusal),
                 None => unreachable!(
-                    "`EncodesReply`, `IsCanonical`, `IsForwardedLine` and `IsWrittenBy` leave no \
-                     status {status} for a code from 100 to 599, a text that is UTF-8, and an \
-                     address of its form's length"
+                    "`EncodesReply`, `IsCanonical`, `IsForwardedLine`, `IsExchangeLine` and \
+                     `IsWrittenBy` leave no status {status} for a code from 100 to 599, a text that \
+                     is UTF-8, and an address of its form's length"
                 ),
             },
         }
@@ -49,6 +57,8 @@ impl Display for Error {
             Error::NoLine => f.write_str("no line gives this command"),
             Error::NotALine => f.write_str("not one line"),
             Error::MalformedReply => f.write_str("malformed reply"),
+            Error::IncompleteReply => f.write_str("incomplete reply"),
+            Error::NotPrintable => f.write_str("not printable"),
             Error::ReplyTooLong => f.write_str("reply too long"),
             Error::TooManyCommands => f.write_str("too many commands"),
         }

@@ -172,6 +172,17 @@ extern "C" {
         len: *mut usize,
     ) -> u32;
 
+    #[cfg_attr(not(feature = "system"), link_name = own_name!("log_exchange"))]
+    fn unftp_log_exchange(
+        shown: *const u8,
+        shown_len: usize,
+        replies: *const u8,
+        replies_len: usize,
+        out: *mut u8,
+        out_room: usize,
+        len: *mut usize,
+    ) -> u32;
+
     #[cfg_attr(not(feature = "system"), link_name = own_name!("client_line"))]
     fn unftp_client_line(
         client: *mut Client,
@@ -317,6 +328,26 @@ pub(crate) fn log_line(number: u32, line: &[u8], out: &mut [u8]) -> (u32, usize)
     // slice beside it. Nothing overlaps: `out` is mutably borrowed, and `len` is a variable here.
     let status = unsafe {
         unftp_log_line(number, line.as_ptr(), line.len(), out.as_mut_ptr(), out.len(), &mut len)
+    };
+    (status, len)
+}
+
+/// Calls `unftp_log_exchange`: what it returns, and the length.
+pub(crate) fn log_exchange(shown: &str, replies: &[u8], out: &mut [u8]) -> (u32, usize) {
+    check_version();
+    let mut len = 0;
+    // SAFETY: no pointer is null, since each is of a reference, and each length is that of the
+    // slice beside it. Nothing overlaps: `out` is mutably borrowed, and `len` is a variable here.
+    let status = unsafe {
+        unftp_log_exchange(
+            shown.as_ptr(),
+            shown.len(),
+            replies.as_ptr(),
+            replies.len(),
+            out.as_mut_ptr(),
+            out.len(),
+            &mut len,
+        )
     };
     (status, len)
 }

@@ -37,7 +37,8 @@
 )]
 //!
 //! A [`Login`] says which events need a login, and answers those that come without one. [`log_line`]
-//! is what a log may show of a line: nothing of what PASS and ACCT have.
+//! is what a log may show of a line: nothing of what PASS and ACCT have. [`log_exchange`] is what it
+//! may show of a line with its replies.
 //!
 //! # A client
 //!
@@ -72,8 +73,8 @@
 //!
 //! With the feature `system` the crate links an installed library in its place, which a distribution
 //! may want: `libunftp_control.a` of the folder that `UNFTP_CONTROL_LIB` names, or of `lib` there,
-//! and else the one that `pkg-config unftp_control` finds, where its version is 0.2.x. The first call
-//! then asks the library for its version, and panics where that is not 0.2.x.
+//! and else the one that `pkg-config unftp_control` finds, where its version is 0.3.x. The first call
+//! then asks the library for its version, and panics where that is not 0.3.x.
 //!
 //! The crate without features has no dependencies.
 //!
@@ -140,7 +141,7 @@ pub use event::{Event, Line, Refusal};
 #[cfg(feature = "tokio-util")]
 pub use line_codec::{FtpLineCodec, OwnedLine};
 pub use lines::LINE_LIMIT;
-pub use log::log_line;
+pub use log::{log_exchange, log_line};
 pub use login::{Login, LoginStep};
 pub use parameters::{AuthParam, ModeParam, Opt, ProtParam, StruParam};
 pub use pending::Pending;

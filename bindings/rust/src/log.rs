@@ -44,6 +44,49 @@ pub(crate) fn shown(number: u32, line: &[u8]) -> Result<String, Error> {
     }))
 }
 
+/// What a log shows of an exchange, a line of a client and its replies, in printable ASCII without a
+/// line end: the line, `->`, and the replies with ` | ` between two of them. A reply is its code,
+/// and after a space its text, if any, escaped as by [`log_line`], with an escaped CR LF between two
+/// lines.
+///
+/// The line is what [`log_line`] returned for it: keep that until the replies come, and not the
+/// line, which may have a password. `None`, and an empty text, is no line: so the greeting is
+/// logged. The replies are their bytes, one after the other: those of
+/// [`ReceivedReply::bytes`](crate::ReceivedReply::bytes) and
+/// [`Reply::to_bytes`](crate::Reply::to_bytes). There may be none. A server may repeat in a reply
+/// what was hidden of a line: to hide the text of a reply, pass its three digits and a CR LF.
+///
+/// ```
+/// use unftp_control::{log_exchange, ReplyDecoder};
+///
+/// assert_eq!(log_exchange(None, b"220 Ready\r\n")?, "-> 220 Ready");
+///
+/// let mut decoder = ReplyDecoder::new();
+/// decoder.push(b"150 Opening\r\n226 Done\r\n")?;
+/// let mut replies = Vec::new();
+/// while let Some(reply) = decoder.next_reply()? {
+///     replies.extend_from_slice(reply.bytes());
+/// }
+/// assert_eq!(log_exchange(Some("RETR a"), &replies)?, "RETR a -> 150 Opening | 226 Done");
+///
+/// assert_eq!(log_exchange(Some("***"), b"500\r\n")?, "*** -> 500");
+/// # Ok::<(), unftp_control::Error>(())
+/// ```
+///
+/// # Errors
+///
+/// [`Error::NotPrintable`] where a byte of the line is not printable ASCII, so that no line of a log
+/// can be forged. Or else [`Error::IncompleteReply`] and [`Error::MalformedReply`], where the bytes
+/// are not replies. [`Error::OutOfMemory`] may come in place of the last two.
+pub fn log_exchange(line: Option<&str>, replies: &[u8]) -> Result<String, Error> {
+    let line = line.unwrap_or_default();
+    let expected = line.len() + replies.len() + 16;
+    let bytes = written(expected, |out| ffi::log_exchange(line, replies, out))?;
+    Ok(String::from_utf8(bytes).unwrap_or_else(|_| {
+        unreachable!("`lines_of_exchanges_are_printable`: each byte is printable ASCII")
+    }))
+}
+
 impl Line<'_> {
     /// Its [`log_line`].
     ///

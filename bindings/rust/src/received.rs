@@ -30,7 +30,9 @@ impl ReceivedReply<'_> {
         matches!(self.code, 100..=199)
     }
 
-    /// All its bytes, with the codes and the line ends.
+    /// All its bytes as they came, with the codes and the line ends, also those that are not UTF-8.
+    /// A program that passes the reply on sends these, and a client reads the same code and the
+    /// same lines in them.
     pub fn bytes(&self) -> &[u8] {
         &self.bytes
     }

@@ -1,11 +1,13 @@
 //! The vector files through the crate.
 mod common;
 
-use common::shown::{quoted, shown_read, written_address};
+use common::shown::{quoted, shown_exchange, shown_read, written_address};
 use common::{
     bytes, calls, limit, pieces, shown_decoded, shown_event, shown_reply, sizes, without_lefts,
 };
-use unftp_control::{canonical, forward, reply, Error, Pending, Reply, ReplyCode, ReplyDecoder};
+use unftp_control::{
+    canonical, forward, log_exchange, reply, Error, Pending, Reply, ReplyCode, ReplyDecoder,
+};
 
 /// The events of all lines that are pending.
 fn take_events(pending: &mut Pending, parts: &mut Vec<String>) {
@@ -269,6 +271,30 @@ fn a_received_reply_has_the_lines_of_the_reply() {
     }
 }
 
+/// What a program passes on of a reply is read as that reply.
+#[test]
+fn each_received_reply_is_read_back() {
+    let (mut replies, mut not_utf8) = (0, 0);
+    for file in ["server_replies.tsv", "worked.tsv"] {
+        for (words, _) in calls(file, &["read"]) {
+            let mut decoder = ReplyDecoder::with_limit(0);
+            decoder.push(&bytes(&words[0])).expect("memory is there");
+            while let Ok(Some(reply)) = decoder.next_reply() {
+                let mut again = ReplyDecoder::with_limit(0);
+                again.push(reply.bytes()).expect("memory is there");
+                let read = again.next_reply().expect("it is a reply").expect("it is complete");
+                assert_eq!(read.code(), reply.code(), "{words:?}");
+                assert!(read.lines().eq(reply.lines()), "{words:?}");
+                assert_eq!(read.bytes().len(), reply.bytes().len(), "{words:?}");
+                replies += 1;
+                not_utf8 += usize::from(std::str::from_utf8(reply.bytes()).is_err());
+            }
+        }
+    }
+    assert!(replies > 9000, "{replies} replies");
+    assert!(not_utf8 > 0, "{not_utf8} replies that are not UTF-8");
+}
+
 /// The lines with the space that is put before a digit, but in the last one.
 fn padded(reply: &Reply) -> Vec<String> {
     let mut lines: Vec<String> = reply.lines().map(str::to_string).collect();
@@ -312,6 +338,21 @@ fn each_canonical_line_means_the_same() {
             Err(error) => panic!("{words:?}: {error}"),
         }
     }
+}
+
+#[test]
+fn each_exchange_has_its_line() {
+    let mut lines = 0;
+    for (words, answer) in calls("exchanges.tsv", &["exchange"]) {
+        if words[0] != "any" {
+            continue;
+        }
+        let line = String::from_utf8(bytes(&words[1])).expect("it is a text");
+        let logged = log_exchange(Some(&line), &bytes(&words[2]));
+        assert_eq!(shown_exchange(logged), Ok(answer), "{words:?}");
+        lines += 1;
+    }
+    assert!(lines > 30, "{lines} lines");
 }
 
 #[test]

@@ -1,6 +1,9 @@
 pub mod AreaLemmas
 pub mod CallLemmas
 pub mod CanonicalLineLemmas
+pub mod ExchangeLawLemmas
+pub mod ExchangeLemmas
+pub mod ExchangeRoomLemmas
 pub mod ForwardedLineLemmas
 pub mod FoundRoomLemmas
 pub mod LogRoomLemmas

@@ -8,6 +8,7 @@ pub mod Replies
 pub mod CanonicalLines
 pub mod ForwardedLines
 pub mod LogLines
+pub mod ExchangeLines
 pub mod Clients
 pub mod Logins
 pub mod Addresses

@@ -1,6 +1,6 @@
 //! What the calls promise one after the other, and what is given says: each the contract of a
 //! function that does nothing.
-ghost use Rattle.std.specs.Prelude.{◌≡◌, ◌≢◌, ◌<◌, ◌≤◌, ◌+◌, ◌*◌, ◌++◌, ◌⊎◌, ℕ, List, [], ◌∷◌, Option, None, Some, true, false, IsTrue, map, length};
+ghost use Rattle.std.specs.Prelude.{◌≡◌, ◌≢◌, ◌<◌, ◌≤◌, ◌+◌, ◌*◌, ◌++◌, ◌⊎◌, ℕ, List, [], ◌∷◌, Ok, Err, Option, None, Some, true, false, IsTrue, map, length};
 ghost use Rattle.std.specs.List.{AllByRecursion, count_by};
 ghost use Rattle.unftp_control_defs.specs.Bytes.{Bytes, LF, Lacks};
 ghost use Rattle.unftp_control_defs.specs.Canonical.{HasLine};
@@ -20,6 +20,7 @@ ghost use Rattle.unftp_control_login.specs.Gate.{decided, stage_after};
 ghost use Rattle.unftp_control_login.specs.Login.{Accounts, IsLoggedIn, is_login, needs_login};
 ghost use Rattle.unftp_control_c.specs.Areas.{Made, written};
 ghost use Rattle.unftp_control_c.specs.Clients.{dialogue_of, may_begin_tls, new_client, place_in, to_number};
+ghost use Rattle.unftp_control_c.specs.ExchangeLines.{IsExchangeLine};
 ghost use Rattle.unftp_control_c.specs.LogLines.{IsLogLine, numbered_log_line};
 ghost use Rattle.unftp_control_c.specs.Logins.{Kept, decision_at, kept_after, kept_after_all, login_step, nobody, progress_of, stage_number, stage_of};
 ghost use Rattle.unftp_control_c.specs.Next.{Call, Given, Leaves, Left, given_for, line_limit, scans};
@@ -130,6 +131,11 @@ pub fn rooms_are_bounded()
     // A log line has at most 12 bytes for each byte of the line, and 42.
     ensures log_line { (number : ℕ) (line : Bytes) (bytes : Made) (out : Bytes)
         → IsLogLine number line bytes → (written bytes out).text_length ≤ 12 * length line + 42 }
+    // The line of an exchange has at most the bytes of what is shown of the line, 4 bytes for each
+    // byte of the replies, and 3.
+    ensures exchange { (shown replies : Bytes) (bytes : Made) (out : Bytes)
+        → IsExchangeLine shown replies bytes
+        → (written bytes out).text_length ≤ length shown + 4 * length replies + 3 }
 {}
 
 /// A log line is that of the log of the library in Rattle, whose laws hold of it.
@@ -145,6 +151,21 @@ pub fn log_lines_are_logged()
         → AllByRecursion IsPrintable (numbered_log_line number line) }
     ensures secrets { (number : ℕ) (line other : Bytes) → known None line ≡ known None other
         → numbered_log_line number line ≡ numbered_log_line number other }
+{}
+
+/// The line of an exchange is printable, whatever a client or a server sent: so no line of a log can
+/// be forged.
+pub fn lines_of_exchanges_are_printable()
+    ensures { (shown replies text : Bytes) → IsExchangeLine shown replies (Ok text)
+        → AllByRecursion IsPrintable text }
+{}
+
+/// There is one line of an exchange, or one reason why there is none, but where memory runs out: so
+/// each error comes exactly where it is meant to.
+pub fn exchanges_have_one_line()
+    ensures { (shown replies : Bytes) (bytes other : Made) → IsExchangeLine shown replies bytes
+        → IsExchangeLine shown replies other → bytes ≢ Err OutOfMemory
+        → other ≢ Err OutOfMemory → bytes ≡ other }
 {}
 
 /// The calls of a client are steps of one dialogue: whatever lines it notes and replies it reports,

@@ -7,6 +7,7 @@ mod canonical;
 mod clear;
 mod client;
 pub mod examples;
+mod exchange;
 mod forwarding;
 mod found;
 pub mod laws;

@@ -27,12 +27,12 @@ pub enum Status {
     /// No line whose one line feed is its last byte is read as the command, or the bytes are no
     /// such line.
     NoLine = 108,
-    /// The first line opens no reply.
+    /// The first line, or the first after some replies, opens no reply.
     Malformed = 109,
     /// No reply has this code.
     UnknownCode = 110,
     /// The offset is past the pending bytes, or is not 0 while bytes are skipped, or the flag is
-    /// greater than 1.
+    /// greater than 1; or what is shown of a line is not printable.
     InvalidArgument = 111,
     /// The text has no such address.
     NoAddress = 112,

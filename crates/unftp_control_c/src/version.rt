@@ -5,7 +5,7 @@ ghost use Rattle.std.specs.Prelude.{◌≡◌};
 /// the minor times 1,000, and the patch.
 #[unsafe(no_mangle)]
 pub extern "C" fn unftp_version() -> u32
-    ensures { result ≡ 2000 }
+    ensures { result ≡ 3000 }
 {
-    2_000
+    3_000
 }

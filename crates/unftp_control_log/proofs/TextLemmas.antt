@@ -5,7 +5,7 @@ use Rattle.std.specs.Fmt.{digits, digits_onto, digit_glyph}
 use Rattle.std.specs.List.{AllByRecursion}
 use Rattle.std.specs.Option.{IfSome}
 use Rattle.std.proofs.lemmas.Bool.{cond_both}
-use Rattle.unftp_control_defs.specs.Bytes.{Bytes}
+use Rattle.unftp_control_defs.specs.Bytes.{Bytes, SP}
 use Rattle.unftp_control_defs.specs.Events.{event_for}
 use Rattle.unftp_control_defs.specs.Lines.{lines_of}
 use Rattle.unftp_control_defs.proofs.ExchangeLemmas.{all-append}
@@ -55,13 +55,19 @@ further_line_prints line = joined (codes "\\r\\n") (shown line) (
   ),
 ) (shown_prints line)
 
-lines_print : (lines : List Bytes) → ArePrintable (lines_text lines)
-lines_print [] = tt
-lines_print (line ∷ lines) = (
+some_lines_print : (line : Bytes) (lines : List Bytes)
+    → ArePrintable (SP ∷ (shown line ++ flat_map further_line lines))
+some_lines_print line lines = (
   (omega arith, omega arith),
   joined (shown line) (flat_map further_line lines) (shown_prints line)
       (all_joined further_line further_line_prints lines),
 )
+
+lines_print : (lines : List Bytes) → ArePrintable (lines_text lines)
+lines_print [] = tt
+lines_print ([] ∷ []) = tt
+lines_print ([] ∷ next ∷ lines) = some_lines_print [] (next ∷ lines)
+lines_print ((b ∷ line) ∷ lines) = some_lines_print (b ∷ line) lines
 
 reply_prints : (reply : Read) → ArePrintable (reply_text reply)
 reply_prints reply =

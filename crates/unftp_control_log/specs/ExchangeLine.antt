@@ -5,12 +5,14 @@ use Rattle.unftp_control_defs.specs.Bytes.{Bytes, SP}
 use Rattle.unftp_control_log.specs.LogLine.{shown}
 use Rattle.unftp_control_log.specs.Exchanges.{Entry, Read}
 
--- The lines of a reply (RFC 959, section 4.2), with an escaped CR LF between two of them.
+-- The lines of a reply (RFC 959, section 4.2), with an escaped CR LF between two of them. One empty
+-- line is no text: it is that of a reply of only a code.
 abbrev pub further_line : Bytes → Bytes
 further_line line = codes "\\r\\n" ++ shown line
 
 abbrev pub lines_text : List Bytes → Bytes
 lines_text [] = []
+lines_text ([] ∷ []) = []
 lines_text (line ∷ lines) = SP ∷ (shown line ++ flat_map further_line lines)
 
 abbrev pub reply_text : Read → Bytes

@@ -191,7 +191,13 @@ pub fn exchanges_are_written()
     ensures several { reply_text (211, codes "Features:" ∷ codes " MDTM" ∷ codes "End" ∷ [])
         ≡ codes "211 Features:\\r\\n MDTM\\r\\nEnd" }
     ensures escaped { lines_text (codes "a\tb" ∷ []) ≡ codes " a\\tb" }
-    ensures no_text { reply_text (200, [] ∷ []) ≡ codes "200 " }
+    ensures code_only { reply_text (530, [] ∷ []) ≡ codes "530" }
+    ensures empty_lines { reply_text (211, [] ∷ [] ∷ []) ≡ codes "211 \\r\\n" }
+    ensures hidden { exchange_line (record {
+      line = Some (codes "refused: Unknown command");
+      replies = (500, [] ∷ []) ∷ [];
+    }) ≡ codes "refused: Unknown command -> 500" }
+    ensures space_after_a_code { lines_text ([] ∷ []) ≡ codes " " → ⊥ }
     ensures no_reply { replies_text [] ≡ [] }
     ensures line_end { lines_text (codes "a" ∷ codes "b" ∷ []) ≡ codes " a\r\nb" → ⊥ }
 {}

@@ -50,6 +50,9 @@ fn append_lines(lines: &Vec<Vec<u8>>, buf: &mut Vec<u8>) -> Result<(), AllocErro
     let Some((first, further)) = lines.as_slice().split_first() else {
         return Ok(());
     };
+    if first.is_empty() && further.is_empty() {
+        return Ok(());
+    }
     buf.push(b' ')?;
     append_shown(first.as_slice(), buf)?;
     append_further_lines(further, buf)
@@ -138,8 +141,8 @@ fn append_exchange(exchange: &Exchange, buf: &mut Vec<u8>) -> Result<(), AllocEr
 
 /// Appends the exchange as one line of a log, without a line end, and changes no earlier byte of
 /// `buf`: its line, `->`, and its replies with ` | ` between two of them. A reply is its code, and
-/// after a space its text in the escapes of Rust's `escape_ascii`, with an escaped CR LF between
-/// two lines. So it is `USER bob -> 331 Need password`, `RETR a -> 150 Opening | 226 Done`, and for
+/// after a space its text, if any, in the escapes of Rust's `escape_ascii`, with an escaped CR LF
+/// between two lines. So it is `USER bob -> 331 Need password`, `RETR a -> 150 Opening | 226 Done`, and for
 /// the greeting `-> 220 Ready`.
 ///
 /// It takes no memory but what `buf` needs, and fails only where `buf` has no room for the line and

@@ -472,6 +472,70 @@ static void check_log_lines(void)
     }
 }
 
+/* The line of an exchange, with just enough room, which is no more than the header says. */
+static struct bytes logged_exchange(const char *shown, struct bytes replies)
+{
+    struct bytes none = area_of(0), less, out;
+    size_t len = strlen(shown), room, again;
+
+    wants(unftp_log_exchange(shown, len, replies.at, replies.len, none.at, 0, &room)
+              == UNFTP_NO_ROOM,
+          "an exchange has a line");
+    free_area(none);
+    wants(room <= len + 4 * replies.len + 3, "its line needs no more than the header says");
+    less = area_of(room - 1);
+    wants(unftp_log_exchange(shown, len, replies.at, replies.len, less.at, room - 1, &again)
+                  == UNFTP_NO_ROOM
+              && again == room && is_filling(less),
+          "its line needs this room");
+    free_area(less);
+    out = area_of(room);
+    wants(unftp_log_exchange(shown, len, replies.at, replies.len, out.at, room, &again)
+                  == UNFTP_DONE
+              && again == room,
+          "its line has just enough room");
+    wants(is_printable(out), "each byte of the line of an exchange is printable ASCII");
+    return out;
+}
+
+/* How many bytes at the start of these are replies, and why there is not another. */
+static size_t replies_of(struct bytes input, enum unftp_result *why)
+{
+    struct unftp_found_reply reply;
+    size_t len = 0;
+
+    while ((*why = unftp_front_reply(input.at + len, input.len - len, &reply)) == UNFTP_DONE)
+        len += reply.used;
+    return len;
+}
+
+/* The bytes are logged as replies as far as they are some. */
+static void check_exchange(struct bytes input)
+{
+    enum unftp_result why;
+    size_t used = replies_of(input, &why), len;
+    struct bytes first = area_of(used), out, again, none = area_of(0);
+
+    memcpy(first.at, input.at, used);
+    out = logged_exchange("RETR a", first);
+    wants(begins_with(out, "RETR a ->"), "an exchange begins with its line");
+    wants((used == 0) == is_text(out, "RETR a ->"), "its replies are shown");
+    again = logged_exchange("", first);
+    wants(again.len == out.len - 7 && memcmp(again.at, out.at + 7, again.len) == 0,
+          "without a line it is the same");
+    if (used < input.len)
+        wants(unftp_log_exchange("", 0, input.at, input.len, none.at, 0, &len) == why && len == 0,
+              "what is no reply is not logged");
+    wants(unftp_log_exchange("\x7f", 1, input.at, input.len, none.at, 0, &len)
+                  == UNFTP_INVALID_ARGUMENT
+              && len == 0,
+          "no line is logged that is not printable");
+    free_area(none);
+    free_area(again);
+    free_area(out);
+    free_area(first);
+}
+
 static bool are_same_clients(struct unftp_client left, struct unftp_client right)
 {
     return left.sent == right.sent && left.answered == right.answered && left.asked == right.asked
@@ -953,6 +1017,7 @@ int main(void)
         check_lines(input);
         check_reply(input);
         check_addresses(input);
+        check_exchange(input);
         free_area(input);
     }
     printf("%lu inputs: %lu commands, %lu refused lines, %lu replies, %lu addresses\n", inputs,

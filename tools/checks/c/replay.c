@@ -412,6 +412,32 @@ static bool answer_log(struct words *words)
     return true;
 }
 
+/* The line of an exchange, in an area of this room, or of what the header says. */
+static bool answer_exchange(struct words *words)
+{
+    struct bytes shown, replies, out;
+    size_t room;
+
+    if (words->count != 3 || !unquote_from(words, 1))
+        return false;
+    shown = words->bytes[1];
+    replies = words->bytes[2];
+    room = strcmp(words->at[0], "any") == 0 ? shown.len + 4 * replies.len + 3
+                                            : (size_t)strtoul(words->at[0], NULL, 10);
+    out.at = room_of(room);
+    switch (unftp_log_exchange(shown.at, shown.len, replies.at, replies.len, out.at, room,
+                               &out.len)) {
+    case UNFTP_DONE: show_quoted(out); break;
+    case UNFTP_NO_ROOM: printf("no-room=%lu", (unsigned long)out.len); break;
+    case UNFTP_INVALID_ARGUMENT: fputs("invalid-argument", stdout); break;
+    case UNFTP_MORE: fputs("incomplete", stdout); break;
+    case UNFTP_MALFORMED: fputs("malformed", stdout); break;
+    default: fail("no line of an exchange");
+    }
+    free(out.at);
+    return true;
+}
+
 /* Notes the replies at the start of what a client has received, and shows to what each is. */
 static void show_received(struct unftp_client *client, struct bytes *pending)
 {
@@ -537,8 +563,8 @@ static const struct {
 } calls[] = {
     {"parse", answer_parse}, {"decode", answer_decode}, {"encode", answer_encode},
     {"read", answer_read}, {"canonical", answer_canonical}, {"forward", answer_forward},
-    {"log", answer_log}, {"client", answer_client}, {"read_address", answer_read_address},
-    {"write_address", answer_write_address},
+    {"log", answer_log}, {"exchange", answer_exchange}, {"client", answer_client},
+    {"read_address", answer_read_address}, {"write_address", answer_write_address},
 };
 
 /* The word at the start of a row, and what follows its tab. */

@@ -35,6 +35,7 @@ enum {
     FORWARD,
     IS_CLEAR,
     LOG_LINE,
+    LOG_EXCHANGE,
     CLIENT_LINE,
     CLIENT_REPLY,
     CLIENT_OWED,
@@ -61,6 +62,7 @@ static const char *const names[CALLS] = {
     "unftp_forward",
     "unftp_is_clear",
     "unftp_log_line",
+    "unftp_log_exchange",
     "unftp_client_line",
     "unftp_client_reply",
     "unftp_client_owed",
@@ -124,6 +126,7 @@ static void call_with_address(int name, struct bytes input, size_t room)
 
 static void call(int name, struct bytes input, size_t room)
 {
+    static const char shown[] = "RETR a";
     struct unftp_connection connection = {0, 0, 0};
 
     switch (name) {
@@ -137,6 +140,9 @@ static void call(int name, struct bytes input, size_t room)
     case FORWARD: unftp_forward(input.at, input.len, area.at, room, &len); break;
     case IS_CLEAR: unftp_is_clear(input.at, input.len); break;
     case LOG_LINE: unftp_log_line(result, input.at, input.len, area.at, room, &len); break;
+    case LOG_EXCHANGE:
+        unftp_log_exchange(shown, sizeof shown - 1, input.at, input.len, area.at, room, &len);
+        break;
     case READ_ADDRESS: case WRITE_ADDRESS: call_with_address(name, input, room); break;
     case VERSION: unftp_version(); break;
     default: call_with_state(name, input, room); break;

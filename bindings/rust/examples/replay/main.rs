@@ -1,16 +1,20 @@
 //! Answers the cases of a vector file (`vectors/README.md`): reads one a line from standard input,
 //! and writes its answer. It has the calls `parse`, `decode`, `encode`, `read`, `canonical`,
-//! `forward`, `log`, `read_address` and `write_address`. A case that its call doesn't take is
+//! `forward`, `log`, `exchange`, `read_address` and `write_address`. A case that its call doesn't take is
 //! answered by `skipped`, and what is no case by `bad-case`.
 
 mod cases;
 mod shown;
 
 use cases::{is_one_line, read_bytes, read_reply};
-use shown::{quoted, shown, shown_read, shown_refusal, shown_refusals, written_address};
+use shown::{
+    quoted, shown, shown_exchange, shown_read, shown_refusal, shown_refusals, written_address,
+};
 use std::io::{self, BufRead, Write};
 use std::process::ExitCode;
-use unftp_control::{canonical, forward, front_reply, Error, Event, FrontReply, Pending};
+use unftp_control::{
+    canonical, forward, front_reply, log_exchange, Error, Event, FrontReply, Pending,
+};
 
 /// What a call answers to a case: `None` where it doesn't take the case.
 type Answer = Result<Option<String>, Error>;
@@ -26,6 +30,10 @@ fn answer(case: &str) -> Option<Answer> {
         ["canonical", line] => answer_written(canonical(&read_bytes(line)?)),
         ["forward", line] => answer_written(forward(&read_bytes(line)?)),
         ["log", limit, line] => answer_log(limit, &read_bytes(line)?),
+        ["exchange", "any", line, replies] => {
+            answer_exchange(&read_bytes(line)?, &read_bytes(replies)?)
+        }
+        ["exchange", ..] => Ok(None),
         ["read_address", form, text] => Ok(shown_read(form, &read_bytes(text)?)),
         ["write_address", form, host, port] => {
             let written = written_address(form, host, port.parse().ok()?)?;
@@ -96,6 +104,14 @@ fn answer_log(limit: &str, line: &[u8]) -> Answer {
         Some(line) => Ok(Some(quoted(line.log_line()?.as_bytes()))),
         None => Ok(None),
     }
+}
+
+/// The line of a log for an exchange, where what is shown of its line is a text.
+fn answer_exchange(line: &[u8], replies: &[u8]) -> Answer {
+    let Ok(line) = std::str::from_utf8(line) else {
+        return Ok(None);
+    };
+    shown_exchange(log_exchange(Some(line), replies)).map(Some)
 }
 
 /// The canonical line of a line, or the one that is forwarded for it.

@@ -22,6 +22,17 @@ fn escaped(byte: u8) -> String {
     }
 }
 
+/// What is answered of the line of an exchange.
+pub fn shown_exchange(line: Result<String, Error>) -> Result<String, Error> {
+    Ok(match line {
+        Ok(line) => quoted(line.as_bytes()),
+        Err(Error::NotPrintable) => "invalid-argument".to_string(),
+        Err(Error::IncompleteReply) => "incomplete".to_string(),
+        Err(Error::MalformedReply) => "malformed".to_string(),
+        Err(error) => return Err(error),
+    })
+}
+
 /// A field of bytes or of a text.
 fn field(name: &str, value: impl AsRef<[u8]>) -> String {
     format!(" {name}={}", quoted(value.as_ref()))

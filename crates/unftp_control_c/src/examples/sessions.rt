@@ -9,11 +9,12 @@ ghost use Rattle.unftp_control_defs.specs.declared.parameters.AuthParam.TheVaria
 ghost use Rattle.unftp_control_client.specs.Dialogue.{new_dialogue};
 ghost use Rattle.unftp_control_client.specs.declared.dialogue.To.TheVariants.{Command, Greeting, Nothing};
 ghost use Rattle.unftp_control_c.specs.Clients.{dialogue_of, may_begin_tls, new_client, place_in, to_number};
+ghost use Rattle.unftp_control_c.specs.ExchangeLines.{IsExchangeLine};
 ghost use Rattle.unftp_control_c.specs.LogLines.{IsLogLine, numbered_log_line};
 ghost use Rattle.unftp_control_c.specs.Logins.{after_answer, after_event, kept_after_all, login_step, nobody, progress_of};
 ghost use Rattle.unftp_control_c.specs.declared.login.Progress.TheVariants.{Asked, LoggedIn, Named, NoName};
 ghost use Rattle.unftp_control_c.specs.declared.login.LoginStep.TheVariants.{AskAccounts, NeedLogin, NeedName, NeedPassword, PassOn};
-ghost use Rattle.unftp_control_c.specs.declared.status.Status.TheVariants.{NoLine, OutOfMemory};
+ghost use Rattle.unftp_control_c.specs.declared.status.Status.TheVariants.{InvalidArgument, Malformed, More, NoLine, OutOfMemory};
 
 /// Log lines, by what `unftp_next` returned: 2 is PASS, and 105 a line that is too long.
 pub fn lines_are_logged()
@@ -25,6 +26,24 @@ pub fn lines_are_logged()
     ensures memory { IsLogLine 10 (codes "NOOP\n") (Err OutOfMemory) }
     ensures always { ¬ IsLogLine 10 (codes "NOOP\n") (Err NoLine) }
     ensures raw { ¬ IsLogLine 2 (codes "PASS a\n") (Ok (codes "PASS a")) }
+{}
+
+/// The lines of exchanges: 31 and 127 are no printable bytes, and 32 and 126 are.
+pub fn exchanges_are_logged()
+    ensures greeting { IsExchangeLine [] (codes "220 a\r\n") (Ok (codes "-> 220 a")) }
+    ensures several { IsExchangeLine (codes "RETR a") (codes "150 b\r\n226 c\r\n")
+        (Ok (codes "RETR a -> 150 b | 226 c")) }
+    ensures code_only { IsExchangeLine (codes "***") (codes "530\r\n") (Ok (codes "*** -> 530")) }
+    ensures no_reply { IsExchangeLine (32 ∷ 126 ∷ []) [] (Ok (codes " ~ ->")) }
+    ensures control { IsExchangeLine (31 ∷ []) [] (Err InvalidArgument) }
+    ensures delete { IsExchangeLine (127 ∷ []) (codes "a\r\n") (Err InvalidArgument) }
+    ensures space { ¬ IsExchangeLine (codes " ") [] (Err InvalidArgument) }
+    ensures incomplete { IsExchangeLine (codes "RETR a") (codes "150 b\r\n226 c") (Err More) }
+    ensures complete { ¬ IsExchangeLine (codes "NOOP") [] (Err More) }
+    ensures malformed { IsExchangeLine [] (codes "220 a\r\nb\r\n") (Err Malformed) }
+    ensures memory { IsExchangeLine [] [] (Err OutOfMemory) }
+    ensures no_memory { ¬ IsExchangeLine (127 ∷ []) [] (Err OutOfMemory) }
+    ensures reply_left_out { ¬ IsExchangeLine [] (codes "220 a\r\n") (Ok (codes "->")) }
 {}
 
 /// What a client keeps: a flag says whether a number is there.

@@ -1,10 +1,11 @@
 //! Exchanges: what a client sent, and what it was answered.
 use serde::{Serialize, Serializer};
+use std::borrow::Cow;
 use std::net::SocketAddr;
 use std::time::{Duration, Instant};
 use time::format_description::well_known::Rfc3339;
 use time::OffsetDateTime;
-use unftp_control::{ReceivedReply, Reply};
+use unftp_control::{log_exchange, Error, ReceivedReply, Reply};
 
 /// How many preliminary replies to a line are kept. A server may send any number of them.
 const MOST_PRELIMINARY: usize = 16;
@@ -25,22 +26,13 @@ pub enum Answer {
 }
 
 impl Answer {
-    fn code(&self) -> u16 {
-        match self {
-            Answer::Received(reply) => reply.code(),
-            Answer::Own(reply) => reply.code().get(),
-            Answer::Code { code } => *code,
-        }
-    }
-
-    /// The code and the first line, in printable ASCII.
-    fn shown(&self) -> String {
-        let first = match self {
-            Answer::Received(reply) => reply.lines().next().map(printable),
-            Answer::Own(reply) => reply.lines().next().map(|line| printable(line.as_bytes())),
-            Answer::Code { .. } => None,
-        };
-        first.map_or_else(|| self.code().to_string(), |first| format!("{} {first}", self.code()))
+    /// Its bytes; of one whose text is not shown, those of its code.
+    fn bytes(&self) -> Result<Cow<'_, [u8]>, Error> {
+        Ok(match self {
+            Answer::Received(reply) => Cow::Borrowed(reply.bytes()),
+            Answer::Own(reply) => Cow::Owned(reply.to_bytes()?),
+            Answer::Code { code } => Cow::Owned(format!("{code:03}\r\n").into_bytes()),
+        })
     }
 }
 
@@ -121,15 +113,25 @@ impl Exchange {
 
     /// Logs it.
     pub fn log(&self) {
-        let line = self.line.as_deref().unwrap_or("-");
-        let mut replies: Vec<String> = self.replies.iter().map(Answer::shown).collect();
+        let mut notes = Vec::new();
         if self.omitted > 0 {
-            replies.push(format!("{} preliminary replies omitted", self.omitted));
+            notes.push(format!("{} preliminary replies omitted", self.omitted));
         }
         if self.is_unanswered {
-            replies.push("unanswered".to_string());
+            notes.push("unanswered".to_string());
         }
-        tracing::info!("{line} -> {} ({} ms)", replies.join(" | "), self.took.as_millis());
+        notes.push(format!("{} ms", self.took.as_millis()));
+        let shown = self.shown().unwrap_or_else(|error| format!("an exchange: {error}"));
+        tracing::info!("{shown} ({})", notes.join(", "));
+    }
+
+    /// The line with its replies, in printable ASCII.
+    fn shown(&self) -> Result<String, Error> {
+        let mut replies = Vec::new();
+        for reply in &self.replies {
+            replies.extend_from_slice(&reply.bytes()?);
+        }
+        log_exchange(self.line.as_deref(), &replies)
     }
 }
 
@@ -147,16 +149,4 @@ fn rfc3339<S: Serializer>(came: &OffsetDateTime, serializer: S) -> Result<S::Ok,
 
 fn milliseconds<S: Serializer>(took: &Duration, serializer: S) -> Result<S::Ok, S::Error> {
     serializer.serialize_u128(took.as_millis())
-}
-
-/// The bytes in printable ASCII, with the others and backslashes escaped.
-fn printable(bytes: &[u8]) -> String {
-    let mut shown = String::with_capacity(bytes.len());
-    for &byte in bytes {
-        match byte {
-            b'\'' | b'"' => shown.push(char::from(byte)),
-            _ => shown.extend(byte.escape_ascii().map(char::from)),
-        }
-    }
-    shown
 }
