@@ -1,5 +1,5 @@
 //! A relay between clients and a server: it decides on each line of a client, and passes on replies
-//! and data connections. The programs `proxy` and `record` are one.
+//! and data connections. The programs `ftp-proxy` and `ftp-record` are one.
 pub mod command_line;
 mod conversation;
 mod data;

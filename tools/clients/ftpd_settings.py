@@ -122,11 +122,11 @@ def check_rights(program):
 
 def check_units(program):
     """The words of systemd's units are those of the programs."""
-    units = pathlib.Path(__file__).resolve().parents[2] / "examples" / "rust" / "systemd"
-    for name, unit in [("ftpd", "ftpd"), ("proxy", "ftp-proxy"), ("record", "ftp-record")]:
-        text = (units / f"{unit}.service").read_text(encoding="utf-8")
+    units = pathlib.Path(__file__).resolve().parents[2] / "programs" / "systemd"
+    for name in ["ftpd", "ftp-proxy", "ftp-record"]:
+        text = (units / f"{name}.service").read_text(encoding="utf-8")
         lines = re.findall(rf"^ExecStart(?:Pre)?=/usr/local/bin/{name} (.*)$", text, re.M)
-        wants(f"whether {unit} starts {name}", bool(lines), True)
+        wants(f"whether a unit starts {name}", bool(lines), True)
         built = pathlib.Path(program).with_name(name)
         if built.exists():
             said = subprocess.run([built, "--help"], capture_output=True, text=True, timeout=PATIENCE, check=True).stdout

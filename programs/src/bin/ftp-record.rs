@@ -1,4 +1,4 @@
-//! A recorder before an FTP server: `record [OPTIONS] --output FILE SERVER`. It relays as `proxy`
+//! A recorder before an FTP server: `ftp-record [OPTIONS] --output FILE SERVER`. It relays as `ftp-proxy`
 //! does, refuses no verb that can be relayed, and appends a line to the file for each exchange: an
 //! [`Exchange`] as an object of JSON. That has the line as a log shows it, so not what PASS has, and
 //! no text of a reply to a line of which a part is hidden.
@@ -8,9 +8,9 @@ use std::process::ExitCode;
 use tokio::fs::{File, OpenOptions};
 use tokio::io::{AsyncWriteExt, BufWriter};
 use tokio::sync::mpsc;
-use unftp_control_examples::relay::command_line::{command, path, run};
-use unftp_control_examples::relay::exchange::Exchange;
-use unftp_control_examples::relay::rules::Allowed;
+use unftp_control_programs::relay::command_line::{command, path, run};
+use unftp_control_programs::relay::exchange::Exchange;
+use unftp_control_programs::relay::rules::Allowed;
 
 /// How many exchanges may wait to be written, before the sessions wait.
 const WAITING: usize = 1024;
@@ -51,9 +51,9 @@ async fn record(matches: &clap::ArgMatches) -> io::Result<()> {
 #[tokio::main]
 async fn main() -> ExitCode {
     let output = path("output", "FILE", "The file to append to").required(true);
-    let matches = command("record", "A recorder before an FTP server").arg(output).get_matches();
+    let matches = command("ftp-record", "A recorder before an FTP server").arg(output).get_matches();
     if let Err(error) = record(&matches).await {
-        let _ = writeln!(io::stderr(), "record: {error}");
+        let _ = writeln!(io::stderr(), "ftp-record: {error}");
         return ExitCode::FAILURE;
     }
     ExitCode::SUCCESS

@@ -1,4 +1,4 @@
-//! What the command lines of `proxy` and `record` have in common.
+//! What the command lines of `ftp-proxy` and `ftp-record` have in common.
 use super::exchange::Exchange;
 use super::rules::Allowed;
 use super::{Limits, Relay};

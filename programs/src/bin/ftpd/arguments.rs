@@ -11,9 +11,9 @@ use std::ops::RangeInclusive;
 use std::path::PathBuf;
 use std::time::Duration;
 use tracing::level_filters::LevelFilter;
-use unftp_control_examples::listening::Limits;
-use unftp_control_examples::log::Format;
-use unftp_control_examples::tls::DataSession;
+use unftp_control_programs::listening::Limits;
+use unftp_control_programs::log::Format;
+use unftp_control_programs::tls::DataSession;
 
 /// Those of RFC 6335, section 6.
 const DYNAMIC_PORTS: RangeInclusive<u16> = 49152..=65535;

@@ -9,8 +9,8 @@ use tokio::time::timeout;
 use tokio_rustls::TlsAcceptor;
 use tokio_util::codec::{Decoder, Encoder};
 use unftp_control::{CodecError, Command, Event, FtpLineCodec, OwnedLine, Reply};
-use unftp_control_examples::stream::Stream;
-use unftp_control_examples::telnet::Telnet;
+use unftp_control_programs::stream::Stream;
+use unftp_control_programs::telnet::Telnet;
 
 /// How many bytes are read at a time.
 const READ: usize = 2048;

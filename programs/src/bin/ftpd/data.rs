@@ -10,9 +10,9 @@ use std::time::Duration;
 use tokio::net::TcpStream;
 use tokio::time::timeout;
 use tokio_rustls::rustls::{self, ServerConnection};
-use unftp_control_examples::address::unmapped;
-use unftp_control_examples::connection::{accept, bound};
-use unftp_control_examples::tls::OfConnection;
+use unftp_control_programs::address::unmapped;
+use unftp_control_programs::connection::{accept, bound};
+use unftp_control_programs::tls::OfConnection;
 
 /// How many bytes of a client are dropped that it sends where it is to read.
 const UNREAD: u64 = 1 << 20;

@@ -45,7 +45,7 @@ use tokio::net::TcpListener;
 use tokio::signal::unix::{signal, Signal, SignalKind};
 use tokio::sync::watch;
 use tokio::task::spawn_blocking;
-use unftp_control_examples::{listening, log};
+use unftp_control_programs::{listening, log};
 
 /// How many descriptors a session needs for its connection, a listener or a data connection, and a
 /// file or a directory with its entries.

@@ -4,7 +4,7 @@ use crate::data::{self, DataPort};
 use crate::session::Session;
 use std::net::{IpAddr, SocketAddr, SocketAddrV4};
 use unftp_control::{AddressError, Error, Reply, ReplyCode as Code};
-use unftp_control_examples::address::{of_eprt, of_port};
+use unftp_control_programs::address::{of_eprt, of_port};
 
 impl Session {
     /// Listens for a data connection.

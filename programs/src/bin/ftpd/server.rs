@@ -9,7 +9,7 @@ use std::net::IpAddr;
 use std::path::PathBuf;
 use std::sync::Arc;
 use std::time::Duration;
-use unftp_control_examples::tls::TlsAcceptors;
+use unftp_control_programs::tls::TlsAcceptors;
 
 /// What a session shares with others.
 pub struct Server {

@@ -14,10 +14,10 @@ use std::time::Duration;
 use tokio::time::{timeout, timeout_at, Instant};
 use tracing::{info_span, Instrument, Level};
 use unftp_control::{CodecError, Command, Event, Login, OwnedLine, Reply, ReplyCode as Code};
-use unftp_control_examples::address::unmapped;
-use unftp_control_examples::listening::{Connected, Stop};
-use unftp_control_examples::stream::Stream;
-use unftp_control_examples::tls::OfConnection;
+use unftp_control_programs::address::unmapped;
+use unftp_control_programs::listening::{Connected, Stop};
+use unftp_control_programs::stream::Stream;
+use unftp_control_programs::tls::OfConnection;
 
 /// How long a client may take to log in.
 const LOGIN_TIME: Duration = Duration::from_secs(120);

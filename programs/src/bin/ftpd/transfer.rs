@@ -18,7 +18,7 @@ use tokio::sync::Notify;
 use tokio::task::spawn_blocking;
 use tokio::time::timeout;
 use unftp_control::{Reply, ReplyCode as Code};
-use unftp_control_examples::tls::OfConnection;
+use unftp_control_programs::tls::OfConnection;
 
 /// How many bytes of a file are read or written at a time.
 const PART: usize = 256 * 1024;

@@ -13,7 +13,7 @@ use tokio::sync::Notify;
 use tokio::time::error::Elapsed;
 use tokio::time::{sleep_until, timeout, Instant};
 use unftp_control::{Command, Event, Reply, ReplyCode as Code};
-use unftp_control_examples::listening::Stop;
+use unftp_control_programs::listening::Stop;
 
 /// How long a transfer may take to end after ABOR: it may wait for a disk.
 const ABORTING: Duration = Duration::from_secs(5);
