@@ -1,14 +1,17 @@
-//! What the programs of `examples/` share: addresses of data connections, a stream that may turn to
-//! TLS, a listener with limits and a clean end, a log that nobody waits for, and what stands between
-//! clients and a server. They are examples of how the crate `unftp_control` is used; what they serve
-//! they serve right.
+//! What the programs share: addresses of data connections, a stream that may turn to TLS, a listener
+//! with limits and a clean end, a log that nobody waits for, and what stands between clients and a
+//! server.
 
 pub mod address;
 mod certificate;
 pub mod connection;
+pub mod identity;
 pub mod listening;
 pub mod log;
+pub mod options;
+pub mod ports;
 pub mod relay;
+pub mod server_tls;
 pub mod stream;
 pub mod telnet;
 pub mod tls;

@@ -23,6 +23,47 @@ pub struct Limits {
     pub per_address: usize,
 }
 
+/// Where a program listens.
+#[derive(Clone, Copy, Debug, PartialEq, Eq)]
+pub struct Place {
+    /// The address.
+    pub address: SocketAddr,
+    /// Whether TLS begins at once there, before the greeting.
+    pub is_implicit: bool,
+}
+
+/// What listens at a place.
+pub struct Listener {
+    tcp: TcpListener,
+    is_implicit: bool,
+}
+
+/// Listens at each place.
+///
+/// # Errors
+///
+/// Where it can't listen at one of them, which the error names.
+pub async fn bind(places: &[Place]) -> io::Result<Vec<Listener>> {
+    let mut listeners = Vec::new();
+    for &Place { address, is_implicit } in places {
+        let tcp = TcpListener::bind(address).await;
+        let tcp =
+            tcp.map_err(|error| io::Error::new(error.kind(), format!("{address}: {error}")))?;
+        listeners.push(Listener { tcp, is_implicit });
+    }
+    Ok(listeners)
+}
+
+/// The ports, with a space between each two.
+///
+/// # Errors
+///
+/// Where the system doesn't say what a port is.
+pub fn ports(listeners: &[Listener]) -> io::Result<String> {
+    let ports = listeners.iter().map(|it| Ok(it.tcp.local_addr()?.port().to_string()));
+    Ok(ports.collect::<io::Result<Vec<_>>>()?.join(" "))
+}
+
 /// Changes once, when the program is to end.
 pub type Stop = watch::Receiver<()>;
 
@@ -32,6 +73,8 @@ pub struct Connected {
     pub tcp: TcpStream,
     /// Its address.
     pub peer: SocketAddr,
+    /// Whether TLS begins at once.
+    pub is_implicit: bool,
     /// Whether there are too many connections, so that it is only to be refused.
     pub is_refused: bool,
     /// When the program is to end.
@@ -87,7 +130,7 @@ impl Drop for Counted {
 ///
 /// Where signals can't be received.
 pub async fn serve<S, F>(
-    listeners: Vec<TcpListener>,
+    listeners: Vec<Listener>,
     limits: Limits,
     patience: Duration,
     session: S,
@@ -106,12 +149,12 @@ where
     loop {
         tokio::select! {
             accepted = accept(&listeners) => match accepted {
-                Ok((tcp, peer)) => {
+                Ok((tcp, peer, is_implicit)) => {
                     let counted = Counted::new(&counts, unmapped(peer.ip()), limits);
                     let (is_refused, stop) = (counted.is_none(), stop.clone());
                     let refusal = is_refused.then(|| refusals.clone().try_acquire_owned());
                     let Ok(refusal) = refusal.transpose() else { continue };
-                    let talk = session(Connected { tcp, peer, is_refused, stop });
+                    let talk = session(Connected { tcp, peer, is_implicit, is_refused, stop });
                     sessions.spawn(async move {
                         talk.await;
                         drop((counted, refusal));
@@ -154,10 +197,13 @@ fn ignore_user_signals() -> io::Result<()> {
     Ok(())
 }
 
-/// Accepts the next client of any of the listeners.
-async fn accept(listeners: &[TcpListener]) -> io::Result<(TcpStream, SocketAddr)> {
+/// Accepts the next client of any of the listeners, and returns whether TLS begins at once.
+async fn accept(listeners: &[Listener]) -> io::Result<(TcpStream, SocketAddr, bool)> {
     poll_fn(|cx| {
-        let mut accepted = listeners.iter().map(|listener| listener.poll_accept(cx));
+        let mut accepted = listeners.iter().map(|listener| {
+            let accepted = listener.tcp.poll_accept(cx);
+            accepted.map_ok(|(tcp, peer)| (tcp, peer, listener.is_implicit))
+        });
         accepted.find(Poll::is_ready).unwrap_or(Poll::Pending)
     })
     .await

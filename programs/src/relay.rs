@@ -7,16 +7,20 @@ pub mod exchange;
 mod lines;
 mod protection;
 pub mod rules;
+mod server;
 mod session;
 
 use crate::listening::Connected;
+use crate::server_tls::ServerTls;
+use crate::tls::TlsAcceptors;
 use exchange::Exchange;
 use rules::Allowed;
+use std::net::Ipv4Addr;
+use std::ops::RangeInclusive;
 use std::sync::atomic::{AtomicU64, Ordering::Relaxed};
 use std::sync::Arc;
 use std::time::Duration;
 use tokio::sync::mpsc;
-use tokio_rustls::TlsAcceptor;
 use tracing::Instrument;
 
 /// The limits on a session.
@@ -31,6 +35,17 @@ pub struct Limits {
     pub data: Duration,
 }
 
+/// What clients are told of data connections, and asked for.
+#[derive(Clone, Debug)]
+pub struct Data {
+    /// The ports of passive ones.
+    pub passive_ports: RangeInclusive<u16>,
+    /// The address in the reply to PASV, before a translation of addresses.
+    pub public_address: Option<Ipv4Addr>,
+    /// Whether names, passwords and files are only taken and sent under TLS.
+    pub require_tls: bool,
+}
+
 /// What stands between clients and a server.
 #[derive(Clone)]
 pub struct Relay {
@@ -39,7 +54,11 @@ pub struct Relay {
     /// The verbs that it may be sent.
     pub allowed: Allowed,
     /// What protects the clients' connections, where they ask for it.
-    pub tls: Option<TlsAcceptor>,
+    pub tls: Option<TlsAcceptors>,
+    /// What protects the server's connections, and checks its certificate, where that is to be.
+    pub server_tls: Option<ServerTls>,
+    /// What clients are told of data connections.
+    pub data: Data,
     /// The limits on each session.
     pub limits: Limits,
     /// Where the exchanges go, beside the log.

@@ -1,4 +1,4 @@
-//! A connection in clear text or under TLS, on the server's end.
+//! A connection in clear text or under TLS.
 use std::io::{self, ErrorKind};
 use std::pin::Pin;
 use std::task::{ready, Context, Poll};
@@ -6,8 +6,8 @@ use std::time::Duration;
 use tokio::io::{copy, sink, AsyncRead, AsyncWrite, AsyncWriteExt, ReadBuf};
 use tokio::net::TcpStream;
 use tokio::time::timeout;
-use tokio_rustls::server::TlsStream;
-use tokio_rustls::TlsAcceptor;
+use tokio_rustls::rustls::ServerName;
+use tokio_rustls::{TlsAcceptor, TlsConnector, TlsStream};
 
 /// A control connection or a data connection.
 pub enum Stream {
@@ -41,7 +41,19 @@ impl Stream {
         }
     }
 
-    /// Turns to TLS, within a time.
+    /// Turns a connection to a server of this name to TLS, within a time.
+    pub async fn connect_tls(
+        tcp: TcpStream,
+        connector: &TlsConnector,
+        name: ServerName,
+        patience: Duration,
+    ) -> io::Result<Stream> {
+        let connected = timeout(patience, connector.connect(name, tcp)).await;
+        let connected = connected.map_err(io::Error::from)?;
+        Ok(Stream::Tls(Box::new(connected?.into())))
+    }
+
+    /// Turns a client's connection to TLS, within a time.
     pub async fn accept_tls(
         self,
         acceptor: &TlsAcceptor,
@@ -51,7 +63,7 @@ impl Stream {
             Stream::Clear(tcp) => {
                 let accepted =
                     timeout(patience, acceptor.accept(tcp)).await.map_err(io::Error::from)?;
-                Ok(Stream::Tls(Box::new(accepted?)))
+                Ok(Stream::Tls(Box::new(accepted?.into())))
             }
             Stream::Tls(_) => Err(io::Error::new(ErrorKind::InvalidInput, "under TLS already")),
         }

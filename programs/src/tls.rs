@@ -6,32 +6,19 @@ use std::net::IpAddr;
 use std::path::Path;
 use std::sync::Arc;
 use tokio::net::TcpStream;
-use tokio_rustls::rustls::server::{NoServerSessionStorage, StoresServerSessions};
+use tokio_rustls::rustls::server::StoresServerSessions;
 use tokio_rustls::rustls::ServerConfig;
 use tokio_rustls::server::TlsStream;
 use tokio_rustls::TlsAcceptor;
-
-/// What accepts TLS with the certificates and the key of two PEM files.
-///
-/// # Errors
-///
-/// Where a file can't be read, or has no certificate or no private key; and where the key isn't that
-/// of the first certificate.
-pub fn tls_acceptor(certificates: &Path, key: &Path) -> io::Result<TlsAcceptor> {
-    let (mut config, _) = tls_config(certificates, key, DataSession::Any)?;
-    // A client that uploads never reads a session ticket. It closes over unread bytes, which resets
-    // the connection, and the end of the file may be lost.
-    config.session_storage = Arc::new(NoServerSessionStorage {});
-    Ok(TlsAcceptor::from(Arc::new(config)))
-}
 
 /// Which TLS sessions a data connection may have.
 #[derive(Clone, Copy, Debug, PartialEq, Eq)]
 pub enum DataSession {
     /// Only that of its control connection, or of another one of the same user and address. It is
     /// resumed, for which a client has to have its secrets. This is TLS 1.2: clients of OpenSSL resume
-    /// a session of TLS 1.3 once for each ticket, and the only ticket comes on the control connection,
-    /// as [`tls_acceptor`] says why.
+    /// a session of TLS 1.3 once for each ticket, and the only ticket comes on the control connection. A
+    /// client that uploads never reads one of a data connection: it closes over unread bytes, which
+    /// resets the connection, and the end of the file may be lost.
     Resumed,
     /// A new one too.
     Any,
@@ -78,7 +65,8 @@ impl TlsAcceptors {
     ///
     /// # Errors
     ///
-    /// As those of [`tls_acceptor`].
+    /// Where a file can't be read, or has no certificate or no private key; and where the key isn't
+    /// that of the first certificate.
     pub fn read(certificates: &Path, key: &Path, kind: DataSession) -> io::Result<TlsAcceptors> {
         let (control, unproved) = tls_config(certificates, key, kind)?;
         let mut data = control.clone();

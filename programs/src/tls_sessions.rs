@@ -68,6 +68,9 @@ impl Connection {
     /// connections may only know the session of the last one, on which it may just be logging in.
     pub async fn is_same_user(&self) -> bool {
         let Some(owner) = self.resumed().upgrade() else { return false };
+        if std::ptr::eq(&*owner, self) {
+            return true;
+        }
         let mut user = owner.user.subscribe();
         drop(owner);
         let known = async {

@@ -1,10 +1,10 @@
 //! A proxy before an FTP server: `ftp-proxy [OPTIONS] SERVER`. It sends the server only lines of verbs
 //! that it allows, and relays data connections. With a certificate it speaks TLS to clients that
-//! ask for it. It prints its port as one line, and logs each exchange on standard error.
-use clap::{Arg, ArgAction};
+//! ask for it. It prints its ports as one line, and logs each exchange on standard error.
 use std::io::{self, Write};
 use std::process::ExitCode;
-use unftp_control_programs::relay::command_line::{command, option, run};
+use unftp_control_programs::options::{flag, option};
+use unftp_control_programs::relay::command_line::{command, run};
 use unftp_control_programs::relay::rules::Allowed;
 
 #[tokio::main]
@@ -12,10 +12,7 @@ async fn main() -> ExitCode {
     let allow = option("allow", "VERB,VERB", "Send only lines of these verbs")
         .value_delimiter(',')
         .conflicts_with("read-only");
-    let read_only = Arg::new("read-only")
-        .long("read-only")
-        .help("Send only lines that log in, ask, or read")
-        .action(ArgAction::SetTrue);
+    let read_only = flag("read-only", "Send only lines that log in, ask, or read");
     let about = "A proxy before an FTP server";
     let matches = command("ftp-proxy", about).arg(allow).arg(read_only).get_matches();
     let allowed = match matches.get_many::<String>("allow") {

@@ -8,7 +8,8 @@ use std::process::ExitCode;
 use tokio::fs::{File, OpenOptions};
 use tokio::io::{AsyncWriteExt, BufWriter};
 use tokio::sync::mpsc;
-use unftp_control_programs::relay::command_line::{command, path, run};
+use unftp_control_programs::options::{path, Common};
+use unftp_control_programs::relay::command_line::{command, run};
 use unftp_control_programs::relay::exchange::Exchange;
 use unftp_control_programs::relay::rules::Allowed;
 
@@ -37,6 +38,7 @@ async fn write(file: File, mut exchanges: mpsc::Receiver<Exchange>) -> io::Resul
 
 async fn record(matches: &clap::ArgMatches) -> io::Result<()> {
     let output = matches.get_one::<PathBuf>("output").ok_or(io::ErrorKind::InvalidInput)?;
+    Common::of(matches).identity.set_umask();
     let (sender, exchanges) = mpsc::channel(WAITING);
     let mut writing = tokio::spawn(write(open(output).await?, exchanges));
     tokio::select! {
@@ -51,7 +53,8 @@ async fn record(matches: &clap::ArgMatches) -> io::Result<()> {
 #[tokio::main]
 async fn main() -> ExitCode {
     let output = path("output", "FILE", "The file to append to").required(true);
-    let matches = command("ftp-record", "A recorder before an FTP server").arg(output).get_matches();
+    let matches =
+        command("ftp-record", "A recorder before an FTP server").arg(output).get_matches();
     if let Err(error) = record(&matches).await {
         let _ = writeln!(io::stderr(), "ftp-record: {error}");
         return ExitCode::FAILURE;

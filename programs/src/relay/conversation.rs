@@ -3,13 +3,14 @@ use super::data::{Progress, Route, Transfer};
 use super::exchange::{Answer, Exchange};
 use super::protection::Protection;
 use super::Relay;
+use crate::server_tls::ToServer;
 use crate::telnet::Telnet;
+use crate::tls::OfConnection;
 use bytes::BytesMut;
 use std::future::Future;
 use std::net::SocketAddr;
 use std::sync::Arc;
 use std::{io, mem};
-use tokio_rustls::TlsAcceptor;
 use tokio_util::codec::Decoder;
 use unftp_control::{
     find_extended_port, find_host_port, Client, CodecError, Command, Error, Event, FtpLineCodec,
@@ -79,6 +80,8 @@ pub(super) enum Purpose {
     Passive { is_extended: bool },
     /// The server may connect to the relay, and the relay to the client.
     Active(Route),
+    /// A login of this user, whose the connection is where it succeeds.
+    Login(Vec<u8>),
 }
 
 /// A line that is owed its final reply.
@@ -120,7 +123,13 @@ pub struct Conversation {
     held: Option<Replied>,
     pub(super) transfer: Option<Transfer>,
     pub(super) protection: Protection,
+    /// What turns the client's connections to TLS, where it asks for that.
+    pub tls: Option<Arc<OfConnection>>,
+    /// What turns the server's data connections to TLS, where they are under it.
+    pub(super) to_server_tls: Option<Arc<ToServer>>,
     pub(super) has_user: bool,
+    /// The name of the last USER.
+    pub(super) user: Vec<u8>,
     /// The last reply that was passed on was a 221 or a 421.
     is_closing: bool,
     /// TLS is to begin, once `to_client` is sent.
@@ -139,7 +148,13 @@ pub struct Conversation {
 
 impl Conversation {
     /// One in which nothing was sent.
-    pub fn new(relay: Arc<Relay>, session: u64, addresses: Addresses) -> Conversation {
+    pub fn new(
+        relay: Arc<Relay>,
+        session: u64,
+        addresses: Addresses,
+        tls: Option<Arc<OfConnection>>,
+        to_server_tls: Option<Arc<ToServer>>,
+    ) -> Conversation {
         let lines = FtpLineCodec::with_limit(relay.limits.line);
         Conversation {
             relay,
@@ -154,7 +169,10 @@ impl Conversation {
             held: None,
             transfer: None,
             protection: Protection::default(),
+            tls,
+            to_server_tls,
             has_user: false,
+            user: Vec::new(),
             is_closing: false,
             begins_tls: false,
             is_urgent: false,
@@ -250,6 +268,11 @@ impl Conversation {
             self.finish(held, is_lost.then(lost))?;
         }
         self.advance()
+    }
+
+    /// Begins under TLS. Data connections are under TLS too, unless the client asks for others.
+    pub fn begin_privately(&mut self) {
+        self.protection = Protection { is_tls: true, has_size: true, is_private: true };
     }
 
     /// Goes on under TLS. What came in clear text is dropped, and so is a data connection.
@@ -378,12 +401,12 @@ impl Conversation {
                 self.transfer = Some(Transfer::start(route, self.data_tls()));
                 None
             }
+            (Purpose::Login(user), 230..=232) => {
+                self.belongs_to(&user);
+                None
+            }
             _ => None,
         }
-    }
-
-    pub(super) fn data_tls(&self) -> Option<TlsAcceptor> {
-        self.relay.tls.clone().filter(|_| self.protection.is_private)
     }
 
     /// Takes a line and does what is to be done with it, unless there is none or it has to wait.
@@ -442,9 +465,12 @@ impl Conversation {
     /// Sends a line to the server, for this one of the client.
     fn send(&mut self, line: OwnedLine, sent: &[u8], asked: Asked) -> Result<(), End> {
         self.is_urgent = false;
-        match line.event {
+        match &line.event {
             Event::Command(Command::Abor) => self.abort()?,
-            Event::Command(Command::User { .. }) => self.has_user = true,
+            Event::Command(Command::User { username }) => {
+                self.has_user = true;
+                self.user = username.to_vec();
+            }
             _ => {}
         }
         if let Err(unsent) = self.dialogue.send_line_with(sent, asked, &mut self.to_server) {

@@ -1,21 +1,23 @@
 //! Data connections: one end is the client's and one the server's.
 use crate::connection::{accept, bound};
+use crate::server_tls::ToServer;
 use crate::stream::Stream;
+use crate::tls::OfConnection;
 use std::future::Future;
 use std::io::{self, ErrorKind};
 use std::net::{self, IpAddr, SocketAddr};
 use std::sync::atomic::{AtomicU64, Ordering::Relaxed};
+use std::sync::Arc;
 use std::time::Duration;
 use tokio::io::{split, AsyncReadExt, AsyncWriteExt, ReadHalf, WriteHalf};
 use tokio::net::TcpStream;
 use tokio::sync::watch;
 use tokio::time::{sleep, timeout};
-use tokio_rustls::TlsAcceptor;
 
 /// How many bytes are read at a time.
 const PIECE: usize = 128 * 1024;
 
-/// How long an end may take to connect to the relay, and the client to begin TLS.
+/// How long an end may take to connect to the relay, and to begin TLS.
 const ACCEPTING: Duration = Duration::from_secs(60);
 /// How long a connection that the server has opened may take to be accepted.
 const ARRIVING: Duration = Duration::from_secs(1);
@@ -43,9 +45,14 @@ pub struct Route {
     pub own: SocketAddr,
     /// Where the relay connects to.
     pub to: SocketAddr,
+    /// What turns the server's end to TLS, if anything.
+    pub server_tls: Option<Arc<ToServer>>,
     /// How long nothing may be sent in either direction.
     pub patience: Duration,
 }
+
+/// What turns the client's end to TLS, if anything.
+type ClientTls = Option<Arc<OfConnection>>;
 
 /// How far a transfer is.
 #[derive(Clone, Copy, Debug, PartialEq, Eq)]
@@ -63,13 +70,13 @@ pub enum Progress {
 /// A data connection that is awaited or open. It is closed when this is dropped.
 pub struct Transfer {
     progress: watch::Receiver<Progress>,
-    tls: watch::Sender<Option<TlsAcceptor>>,
+    tls: watch::Sender<ClientTls>,
 }
 
 impl Transfer {
     /// Waits for the data connection of a route, and relays it. The client's end is protected by
     /// this, if anything.
-    pub fn start(route: Route, tls: Option<TlsAcceptor>) -> Transfer {
+    pub fn start(route: Route, tls: ClientTls) -> Transfer {
         let (report, progress) = watch::channel(Progress::Awaited);
         let (tls, level) = watch::channel(tls);
         tokio::spawn(async move {
@@ -86,7 +93,7 @@ impl Transfer {
 
     /// Protects the client's end by this from now on. A connection that is open already is lost:
     /// its ends may not agree on how it is protected (RFC 4217, section 7).
-    pub fn protect(&self, tls: Option<TlsAcceptor>) {
+    pub fn protect(&self, tls: ClientTls) {
         self.tls.send_replace(tls);
     }
 
@@ -112,7 +119,7 @@ async fn change(progress: &mut watch::Receiver<Progress>, before: Progress) {
     while *progress.borrow_and_update() == before && progress.changed().await.is_ok() {}
 }
 
-/// Listens at an address, on a port that the system picks.
+/// Listens at an address for the server, on a port that the system picks.
 pub fn listen(mut own: SocketAddr) -> io::Result<net::TcpListener> {
     own.set_port(0);
     bound(own)?.listen(4)?.into_std()
@@ -121,12 +128,12 @@ pub fn listen(mut own: SocketAddr) -> io::Result<net::TcpListener> {
 async fn relay(
     route: Route,
     report: &watch::Sender<Progress>,
-    mut level: watch::Receiver<Option<TlsAcceptor>>,
+    mut level: watch::Receiver<ClientTls>,
 ) -> io::Result<()> {
     let patience = route.patience;
     let (client, server) = open(route, report, &mut level).await?;
     let (client_reader, client_writer) = split(client);
-    let (server_reader, server_writer) = split(Stream::Clear(server));
+    let (server_reader, server_writer) = split(server);
     let mut down = Flow::new(server_reader, client_writer);
     let mut up = Flow::new(client_reader, server_writer);
     let moved = AtomicU64::new(0);
@@ -156,32 +163,37 @@ async fn relay(
     copied
 }
 
-/// Both ends, once they are open, the client's as it is to be protected then.
+/// Both ends, once they are open and protected, the client's as it is to be then. Either may begin
+/// before the other: a server may send its preliminary reply before or after that.
 async fn open(
     route: Route,
     report: &watch::Sender<Progress>,
-    level: &mut watch::Receiver<Option<TlsAcceptor>>,
-) -> io::Result<(Stream, TcpStream)> {
+    level: &mut watch::Receiver<ClientTls>,
+) -> io::Result<(Stream, Stream)> {
+    let server_tls = route.server_tls.clone();
     let (client, server) = tokio::select! {
         connected = connect_both(route, report) => connected?,
         () = dropped(level.clone()) => return Err(ErrorKind::Interrupted.into()),
     };
-    let acceptor = level.borrow_and_update().clone();
-    let protected = tokio::select! {
-        protected = protect(client, acceptor) => protected,
-        _ = level.changed() => Err(ErrorKind::Interrupted.into()),
-    };
-    match protected {
-        Ok(client) => Ok((client, server)),
-        Err(error) => {
-            reset(&server);
-            Err(error)
-        }
+    // what ends before that must not look as an empty file
+    reset(&server);
+    if server_tls.is_some() {
+        reset(&client);
     }
+    let client_tls = level.borrow_and_update().clone();
+    let protected =
+        async { tokio::try_join!(protect(client, client_tls), protect_server(server, server_tls)) };
+    let (client, server) = tokio::select! {
+        protected = protected => protected?,
+        _ = level.changed() => return Err(ErrorKind::Interrupted.into()),
+    };
+    client.tcp().set_linger(None)?;
+    server.tcp().set_linger(None)?;
+    Ok((client, server))
 }
 
 /// Waits until the sender is dropped.
-async fn dropped(mut level: watch::Receiver<Option<TlsAcceptor>>) {
+async fn dropped(mut level: watch::Receiver<ClientTls>) {
     while level.changed().await.is_ok() {}
 }
 
@@ -207,12 +219,22 @@ async fn connect_both(
     })
 }
 
-/// The client's end, under TLS where there is an acceptor.
-async fn protect(client: TcpStream, acceptor: Option<TlsAcceptor>) -> io::Result<Stream> {
-    let client = Stream::Clear(client);
-    match acceptor {
-        Some(acceptor) => client.accept_tls(&acceptor, ACCEPTING).await,
-        None => Ok(client),
+/// The client's end, under TLS where that is to be.
+async fn protect(client: TcpStream, tls: ClientTls) -> io::Result<Stream> {
+    match tls {
+        Some(tls) => {
+            let accepted = timeout(ACCEPTING, tls.accept_data(client)).await??;
+            Ok(Stream::Tls(Box::new(accepted.into())))
+        }
+        None => Ok(Stream::Clear(client)),
+    }
+}
+
+/// The server's end, under TLS where that is to be.
+async fn protect_server(server: TcpStream, tls: Option<Arc<ToServer>>) -> io::Result<Stream> {
+    match tls {
+        Some(tls) => tls.turn_data(server, ACCEPTING).await,
+        None => Ok(Stream::Clear(server)),
     }
 }
 

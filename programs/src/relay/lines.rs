@@ -3,8 +3,9 @@ use super::conversation::{Addresses, Conversation, Purpose, Verdict};
 use super::data::{listen, Direction, Route, Transfer};
 use super::rules::{is_option, parameter};
 use crate::address::{of_eprt, of_port};
+use crate::ports;
 use std::io;
-use std::net::SocketAddr;
+use std::net::{SocketAddr, SocketAddrV4};
 use unftp_control::{
     extended, forward, host_port, AddressError, Command, Error, Event, ModeParam, OwnedLine, Reply,
     ReplyCode as Code,
@@ -34,7 +35,12 @@ impl Conversation {
         let Event::Command(command) = event else {
             return Verdict::Send(sent, Purpose::PassOn);
         };
+        if let Some(reply) = self.refusal_in_clear(command) {
+            return Verdict::Answer(reply);
+        }
         let purpose = match command {
+            Command::User { username } => Purpose::Login(username.to_vec()),
+            Command::Pass { .. } | Command::Acct { .. } => Purpose::Login(self.user.clone()),
             Command::Auth { .. } | Command::Pbsz | Command::Prot { .. } => return Verdict::Protect,
             Command::Pasv => return self.passive(),
             Command::Epsv => return self.extended_passive(sent),
@@ -47,7 +53,8 @@ impl Conversation {
             }
             // it would end TLS (RFC 4217), and the next login would be in clear text
             Command::Other { command_name, .. }
-                if command_name == "REIN" && self.protection.is_tls =>
+                if command_name == "REIN"
+                    && (self.protection.is_tls || self.to_server_tls.is_some()) =>
             {
                 return answer(Code::COMMAND_NOT_IMPLEMENTED, "No REIN under TLS");
             }
@@ -95,11 +102,14 @@ impl Conversation {
     pub(super) fn listen_for_client(&mut self, port: u16, is_extended: bool) -> Option<Reply> {
         let Addresses { client, to_client, server: mut to, to_server } = self.addresses;
         to.set_port(port);
-        let listener = listen(to_client).ok()?;
-        let own = listener.local_addr().ok()?;
-        let reply = match own {
-            _ if is_extended => Reply::extended_passive(own.port()).ok()?,
-            SocketAddr::V4(own) => Reply::passive(own).ok()?,
+        let data = &self.relay.data;
+        let (listener, own) = ports::listen(to_client, &data.passive_ports).ok()?;
+        let reply = match to_client {
+            _ if is_extended => Reply::extended_passive(own).ok()?,
+            SocketAddr::V4(address) => {
+                let address = data.public_address.unwrap_or(*address.ip());
+                Reply::passive(SocketAddrV4::new(address, own)).ok()?
+            }
             SocketAddr::V6(_) => return None,
         };
         let route = Route {
@@ -108,6 +118,7 @@ impl Conversation {
             from: client.ip(),
             own: to_server,
             to,
+            server_tls: self.to_server_tls.clone(),
             patience: self.relay.limits.data,
         };
         self.transfer = Some(Transfer::start(route, self.data_tls()));
@@ -150,6 +161,7 @@ impl Conversation {
             from: self.addresses.server.ip(),
             own: self.addresses.to_client,
             to,
+            server_tls: self.to_server_tls.clone(),
             patience: self.relay.limits.data,
         };
         Ok(Verdict::Send(line.into_bytes(), Purpose::Active(route)))

@@ -1,6 +1,9 @@
-//! Protection of the clients' connections by TLS (RFC 4217). The server knows nothing of it.
+//! Protection of the clients' connections by TLS (RFC 4217). The server knows nothing of it: its own
+//! connections are protected or not, whatever those of the clients are.
 use super::conversation::Conversation;
 use super::rules::is_never_sent;
+use crate::tls::OfConnection;
+use std::sync::Arc;
 use unftp_control::{
     AuthParam, Command, Event, ProtParam, ReceivedReply, Reply, ReplyCode as Code,
 };
@@ -19,7 +22,7 @@ pub struct Protection {
 impl Conversation {
     /// Does what AUTH, PBSZ or PROT asks for, and returns the reply.
     pub(super) fn protect(&mut self, event: &Event<'_>) -> Reply {
-        if self.relay.tls.is_none() {
+        if self.tls.is_none() {
             return Reply::new(Code::COMMAND_NOT_IMPLEMENTED, "No TLS here");
         }
         let (code, text) = match event {
@@ -27,6 +30,11 @@ impl Conversation {
             Event::Command(Command::Pbsz) if self.protection.is_tls => {
                 self.protection.has_size = true;
                 (Code::COMMAND_OKAY, "PBSZ=0")
+            }
+            Event::Command(Command::Prot { param: ProtParam::Clear })
+                if self.protection.has_size && self.relay.data.require_tls =>
+            {
+                (Code::FTPS_REQUIRED, "Data connections are under TLS only")
             }
             Event::Command(Command::Prot { param }) if self.protection.has_size => match param {
                 ProtParam::Clear | ProtParam::Private => {
@@ -48,6 +56,40 @@ impl Conversation {
         }
     }
 
+    /// What turns the client's end of data connections to TLS, where they are to be under it.
+    pub(super) fn data_tls(&self) -> Option<Arc<OfConnection>> {
+        self.tls.clone().filter(|_| self.protection.is_private)
+    }
+
+    /// Notes whose connection it is, after a login: its data connections are tied to it by that.
+    pub(super) fn belongs_to(&self, user: &[u8]) {
+        if let Some(connection) = self.tls.as_ref().and_then(|tls| tls.connection.as_ref()) {
+            connection.belongs_to(user);
+        }
+    }
+
+    /// The reply to a name, a password or a transfer in clear text where TLS has to come first.
+    pub(super) fn refusal_in_clear(&self, command: &Command<'_>) -> Option<Reply> {
+        let is_clear = !self.protection.is_tls;
+        match command {
+            _ if !self.relay.data.require_tls || self.protection.is_private => None,
+            Command::User { .. } | Command::Pass { .. } | Command::Acct { .. } if is_clear => {
+                Some(Reply::new(Code::FTPS_REQUIRED, "AUTH TLS comes first"))
+            }
+            Command::Retr { .. }
+            | Command::Stor { .. }
+            | Command::Appe { .. }
+            | Command::Stou
+            | Command::List { .. }
+            | Command::Nlst { .. }
+            | Command::Mlsd { .. } => {
+                let text = "Data connections are under TLS only: use PROT P";
+                Some(Reply::new(Code::ADDRESS_FAMILY_NOT_SUPPORTED, text))
+            }
+            _ => None,
+        }
+    }
+
     /// Features without those whose lines the server is never sent, and with those of the relay.
     pub(super) fn features(&self, reply: &ReceivedReply<'_>) -> Reply {
         let is_of_server = |line: &String| {
@@ -63,7 +105,7 @@ impl Conversation {
         if lines.is_empty() {
             lines.push("Features:".to_string());
         }
-        if self.relay.tls.is_some() {
+        if self.tls.is_some() {
             lines.extend([" AUTH TLS", " PBSZ", " PROT"].map(String::from));
         }
         lines.extend(last.or_else(|| (lines.len() > 1).then(|| "End".to_string())));

@@ -1,22 +1,23 @@
 //! A client's session: both control connections.
 use super::conversation::{Addresses, Conversation, End, MOST_PENDING};
+use super::server::{Failure, Server};
 use super::Relay;
 use crate::address::unmapped;
 use crate::listening::{Connected, Stop};
 use crate::stream::Stream;
+use crate::tls::OfConnection;
 use bytes::BytesMut;
+use std::future::{poll_fn, Future};
 use std::io;
 use std::net::{IpAddr, SocketAddr};
+use std::pin::{pin, Pin};
 use std::sync::Arc;
+use std::task::Poll;
 use std::time::Duration;
-use tokio::io::{split, AsyncReadExt, AsyncWriteExt, ReadHalf, WriteHalf};
-use tokio::net::tcp::{OwnedReadHalf, OwnedWriteHalf};
-use tokio::net::TcpStream;
+use tokio::io::{split, AsyncReadExt, AsyncWrite, AsyncWriteExt, ReadHalf, WriteHalf};
 use tokio::time::{sleep_until, timeout, Instant};
 use unftp_control::{Reply, ReplyCode as Code};
 
-/// How long connecting to the server may take.
-const CONNECTING: Duration = Duration::from_secs(20);
 /// How long a TLS handshake may take.
 const HANDSHAKE: Duration = Duration::from_secs(20);
 /// How long the client may take to read the last reply and to close, and a transfer to end where
@@ -32,8 +33,9 @@ const DATA_MARK: u8 = 0xf2;
 /// A session: a client's control connection, and the one to the server for it.
 pub struct Session {
     conversation: Conversation,
-    from_server: OwnedReadHalf,
-    to_server: OwnedWriteHalf,
+    server: Stream,
+    /// Nothing of what was written to the server waits in a buffer of TLS.
+    is_server_flushed: bool,
     stop: Stop,
     is_stopping: bool,
     /// The client has sent its end.
@@ -48,32 +50,43 @@ pub struct Session {
 
 /// Serves a client that has connected.
 pub async fn serve(relay: Arc<Relay>, number: u64, connected: Connected) -> io::Result<()> {
-    let Connected { tcp, peer, is_refused, stop } = connected;
+    let Connected { tcp, peer, is_implicit, is_refused, stop } = connected;
     let to_client = tcp.local_addr()?;
-    let client = Stream::control(tcp)?;
+    let tls = relay.tls.as_ref().map(|it| Arc::new(it.of_connection(unmapped(peer.ip()))));
+    let mut client = Stream::control(tcp)?;
+    if is_implicit {
+        client = accept_tls(client, tls.as_deref()).await?;
+    }
     if is_refused {
         return refuse(client, "Too many connections").await;
     }
-    let server = match connect(&relay.server).await {
-        Ok(server) => server,
-        Err(error) => {
-            tracing::warn!(%error, server = relay.server, "can't connect");
-            return refuse(client, "The server can't be reached").await;
-        }
-    };
+    let Server { stream: server, tls: to_server_tls, greeting } =
+        match Server::connect(&relay.server, relay.server_tls.as_ref()).await {
+            Ok(server) => server,
+            Err(Failure::Unreachable(error)) => {
+                tracing::warn!(%error, server = relay.server, "can't connect");
+                return refuse(client, "The server can't be reached").await;
+            }
+            Err(Failure::Unprotected(error)) => {
+                tracing::warn!(%error, server = relay.server, "can't connect under TLS");
+                return refuse(client, "The server can't be reached under TLS").await;
+            }
+        };
     let addresses = Addresses {
         client: of_one_protocol(peer),
         to_client: of_one_protocol(to_client),
-        server: of_one_protocol(server.peer_addr()?),
-        to_server: of_one_protocol(server.local_addr()?),
+        server: of_one_protocol(server.tcp().peer_addr()?),
+        to_server: of_one_protocol(server.tcp().local_addr()?),
     };
     let deadline = Instant::now() + relay.limits.idle;
-    let conversation = Conversation::new(relay, number, addresses);
-    let (from_server, to_server) = server.into_split();
-    let session = Session {
+    let mut conversation = Conversation::new(relay, number, addresses, tls, to_server_tls);
+    if is_implicit {
+        conversation.begin_privately();
+    }
+    let mut session = Session {
         conversation,
-        from_server,
-        to_server,
+        server,
+        is_server_flushed: true,
         stop,
         is_stopping: false,
         is_client_gone: false,
@@ -81,7 +94,17 @@ pub async fn serve(relay: Arc<Relay>, number: u64, connected: Connected) -> io::
         is_flushed: true,
         deadline,
     };
-    session.run(client).await
+    let begun = session.conversation.receive_from_server(&greeting);
+    session.run(client, begun.err()).await
+}
+
+/// Turns a client's control connection to TLS.
+async fn accept_tls(client: Stream, tls: Option<&OfConnection>) -> io::Result<Stream> {
+    let tls = tls.ok_or(io::ErrorKind::Unsupported)?;
+    client.accept_tls(&tls.control, HANDSHAKE).await.map_err(|error| {
+        tracing::warn!(error = &*error.to_string(), "TLS handshake failed");
+        error
+    })
 }
 
 /// Tells a client by a 421 that it has no session.
@@ -101,13 +124,6 @@ fn of_one_protocol(address: SocketAddr) -> SocketAddr {
     }
 }
 
-async fn connect(server: &str) -> io::Result<TcpStream> {
-    let tcp = timeout(CONNECTING, TcpStream::connect(server)).await??;
-    tcp.set_nodelay(true)?;
-    socket2::SockRef::from(&tcp).set_keepalive(true)?;
-    Ok(tcp)
-}
-
 /// Writes a part of what waits. Where nothing does, TLS is to send what it still has.
 async fn write(
     writer: &mut WriteHalf<Stream>,
@@ -124,27 +140,59 @@ async fn write(
     Ok(())
 }
 
+/// What was done with the control connection to the server.
+enum Moved {
+    /// So many bytes were sent.
+    Sent(io::Result<usize>),
+    /// So many were received.
+    Received(io::Result<usize>),
+}
+
+/// Sends the server a part of what waits, or receives what it has sent, where there is a place for it.
+async fn exchange(
+    server: &mut Stream,
+    output: &[u8],
+    is_flushed: &mut bool,
+    mut input: Option<&mut BytesMut>,
+) -> Moved {
+    poll_fn(|cx| {
+        if !output.is_empty() {
+            if let Poll::Ready(sent) = Pin::new(&mut *server).poll_write(cx, output) {
+                *is_flushed = false;
+                return Poll::Ready(Moved::Sent(sent));
+            }
+        } else if !*is_flushed {
+            if let Poll::Ready(flushed) = Pin::new(&mut *server).poll_flush(cx) {
+                *is_flushed = true;
+                return Poll::Ready(Moved::Sent(flushed.map(|()| 0)));
+            }
+        }
+        let Some(input) = input.as_deref_mut() else { return Poll::Pending };
+        pin!(server.read_buf(input)).poll(cx).map(Moved::Received)
+    })
+    .await
+}
+
 impl Session {
-    /// Relays between both sides, until one of them ends that.
-    async fn run(mut self, mut client: Stream) -> io::Result<()> {
+    /// Relays between both sides, until one of them ends that, or where that has an end already.
+    async fn run(mut self, mut client: Stream, mut ended: Option<End>) -> io::Result<()> {
         let end = loop {
+            if let Some(end) = ended {
+                break end;
+            }
             let (mut reader, mut writer) = split(client);
-            let talked = self.talk(&mut reader, &mut writer).await;
+            ended = self.talk(&mut reader, &mut writer).await.err();
             client = reader.unsplit(writer);
-            match (talked, &self.conversation.relay.tls) {
-                (Ok(()), Some(acceptor)) => {
-                    client = client.accept_tls(acceptor, HANDSHAKE).await?;
-                    self.conversation.begin_tls();
-                }
-                (Ok(()), None) => break End::Silent,
-                (Err(end), _) => break end,
+            if ended.is_none() {
+                client = accept_tls(client, self.conversation.tls.as_deref()).await?;
+                self.conversation.begin_tls();
             }
         };
         let ended = self.conversation.end(end).map_err(io::Error::other);
         let _ = self.record().await;
         ended?;
         let mut last = self.conversation.to_client;
-        drop((self.from_server, self.to_server));
+        drop(self.server);
         let sent = async {
             client.write_all_buf(&mut last).await?;
             client.flush().await
@@ -172,30 +220,32 @@ impl Session {
             from_client.reserve(PIECE);
             from_server.reserve(PIECE);
             let has_room = self.conversation.has_room();
+            let reads_server = has_room && !self.conversation.is_holding();
             tokio::select! {
                 read = reader.read_buf(&mut from_client), if has_room && self.reads_client() => {
                     self.is_client_gone = read? == 0;
                     self.conversation.receive_from_client(&from_client.split())?;
                 }
-                read = self.from_server.read_buf(&mut from_server),
-                    if has_room && !self.conversation.is_holding() =>
-                {
-                    if matches!(read, Ok(0) | Err(_)) {
-                        return Err(self.conversation.server_end());
+                moved = exchange(
+                    &mut self.server,
+                    &self.conversation.to_server,
+                    &mut self.is_server_flushed,
+                    reads_server.then_some(&mut from_server),
+                ) => match moved {
+                    Moved::Received(Ok(0) | Err(_)) => return Err(self.conversation.server_end()),
+                    Moved::Received(Ok(_)) => {
+                        self.conversation.receive_from_server(&from_server.split())?;
                     }
-                    self.conversation.receive_from_server(&from_server.split())?;
-                }
+                    Moved::Sent(sent) => {
+                        // a server that is gone may have said why: that is read
+                        let sent = sent.unwrap_or(self.conversation.to_server.len());
+                        self.conversation.to_server.drain(..sent);
+                    }
+                },
                 written = write(writer, &mut self.conversation.to_client, &mut self.is_flushed),
                     if !self.conversation.to_client.is_empty() || !self.is_flushed =>
                 {
                     written?;
-                }
-                written = self.to_server.write(&self.conversation.to_server),
-                    if !self.conversation.to_server.is_empty() =>
-                {
-                    // a server that is gone may have said why: that is read
-                    let written = written.unwrap_or(self.conversation.to_server.len());
-                    self.conversation.to_server.drain(..written);
                 }
                 () = transferred, if self.conversation.is_holding() => {
                     self.conversation.release()?;
@@ -247,9 +297,12 @@ impl Session {
     /// transfer only then. A server that doesn't take urgent data in line loses the urgent byte, so
     /// that byte is none of the line's.
     fn send_urgent(&mut self) {
+        let is_urgent = std::mem::take(&mut self.conversation.is_urgent);
+        // TLS has no urgent data
+        let Stream::Clear(tcp) = &self.server else { return };
         let line = &mut self.conversation.to_server;
-        if std::mem::take(&mut self.conversation.is_urgent) && line == b"ABOR\r\n" {
-            let socket = socket2::SockRef::from(self.to_server.as_ref());
+        if is_urgent && line == b"ABOR\r\n" {
+            let socket = socket2::SockRef::from(tcp);
             if let Ok(sent) = socket.send_out_of_band(INTERRUPT) {
                 line.splice(..0, INTERRUPT[sent..].iter().chain([&DATA_MARK]).copied());
             }
@@ -262,7 +315,7 @@ impl Session {
         let is_sent = self.conversation.has_taken_all() && self.conversation.to_server.is_empty();
         if self.is_client_gone && is_sent && !self.is_end_sent {
             self.is_end_sent = true;
-            let _ = self.to_server.shutdown().await;
+            let _ = self.server.shutdown().await;
         }
     }
 

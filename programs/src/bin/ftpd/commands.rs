@@ -78,7 +78,7 @@ impl Session {
                 let reply = Reply::new(Code::PARAMETER_SYNTAX_ERROR, "USER takes a name");
                 return Some(Answer::Reply(reply));
             }
-            if self.server.settings.require_tls && !self.is_tls {
+            if self.server.settings.common.require_tls && !self.is_tls {
                 return Some(Answer::Reply(Reply::new(
                     Code::FTPS_REQUIRED,
                     "AUTH TLS comes first",
@@ -298,7 +298,7 @@ impl Session {
         }
         match level {
             ProtParam::Private => self.is_private = true,
-            ProtParam::Clear if self.server.settings.require_tls => {
+            ProtParam::Clear if self.server.settings.common.require_tls => {
                 return refuse(Code::FTPS_REQUIRED, "Data connections are under TLS only");
             }
             ProtParam::Clear => self.is_private = false,

@@ -1,9 +1,7 @@
 //! Data connections: a client names where it listens, or the server listens for it.
-use pbkdf2::password_hash::rand_core::{OsRng, RngCore};
 use rustix::io::ioctl_fionread;
 use std::io::{self, ErrorKind, Read, Write};
 use std::net::{self, IpAddr, Shutdown, SocketAddr};
-use std::ops::RangeInclusive;
 use std::sync::atomic::{AtomicBool, Ordering};
 use std::sync::Arc;
 use std::time::Duration;
@@ -36,6 +34,11 @@ impl Ends {
             SocketAddr::V6(server) => server.scope_id(),
         };
         Ends { client: unmapped(client.ip()), server: unmapped(server.ip()), scope }
+    }
+
+    /// Where the server listens for data connections, with any port.
+    pub fn listening(self) -> SocketAddr {
+        self.at(self.server, 0)
     }
 
     /// A port of one of the addresses.
@@ -73,21 +76,6 @@ impl DataPort {
             }
         }
     }
-}
-
-/// Listens for a client's data connection, on one of these ports. Each search begins elsewhere, so
-/// that others can't tell the next port.
-pub fn listen(ends: Ends, ports: &RangeInclusive<u16>) -> io::Result<(net::TcpListener, u16)> {
-    let (first, last) = (*ports.start(), *ports.end());
-    let start = first + (OsRng.next_u32() % ports.len() as u32) as u16;
-    let listen_on = |port| net::TcpListener::bind(ends.at(ends.server, port));
-    let free = (start..=last).chain(first..start).find_map(|port| match listen_on(port) {
-        Err(error) if error.kind() == ErrorKind::AddrInUse => None,
-        listening => Some(listening.map(|listener| (listener, port))),
-    });
-    let (listener, port) = free.unwrap_or_else(|| Err(ErrorKind::AddrInUse.into()))?;
-    listener.set_nonblocking(true)?;
-    Ok((listener, port))
 }
 
 /// An open data connection.

@@ -40,7 +40,7 @@ impl Session {
     /// Refuses a transfer without a data connection, or with one in clear text that has to be under
     /// TLS (RFC 4217, section 7).
     fn data_connection(&self) -> Result<(), Reply> {
-        if self.server.settings.require_tls && !self.is_private {
+        if self.server.settings.common.require_tls && !self.is_private {
             let text = "Data connections are under TLS only: use PROT P";
             return Err(Reply::new(Code::ADDRESS_FAMILY_NOT_SUPPORTED, text));
         }

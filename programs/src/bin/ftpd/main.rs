@@ -41,7 +41,6 @@ use std::io::{self, Read, Write};
 use std::process::ExitCode;
 use std::sync::Arc;
 use std::time::Duration;
-use tokio::net::TcpListener;
 use tokio::signal::unix::{signal, Signal, SignalKind};
 use tokio::sync::watch;
 use tokio::task::spawn_blocking;
@@ -58,7 +57,7 @@ const CLOSING: Duration = Duration::from_secs(6);
 fn main() -> ExitCode {
     let done = arguments::task().and_then(|task| match task {
         Task::HashPassword { rounds } => print_hash(rounds),
-        Task::Check(settings) => Server::read(*settings).map(drop),
+        Task::Check(settings) => check(*settings),
         Task::Serve(settings) => start(*settings),
     });
     match done {
@@ -86,9 +85,16 @@ fn print(line: &str) -> io::Result<()> {
     writeln!(io::stdout(), "{line}").map_err(|error| about("standard output", error))
 }
 
+/// Reads all that serving the folder needs.
+fn check(settings: Settings) -> io::Result<()> {
+    settings.common.identity.check()?;
+    Server::read(settings).map(drop)
+}
+
 /// Starts what serves the folder.
 fn start(settings: Settings) -> io::Result<()> {
-    let _end = log::start(settings.log, settings.log_format)?;
+    settings.common.identity.set_umask();
+    let _end = log::start(settings.common.log, settings.common.log_format)?;
     // All sessions wait in one thread, which spares them a hand-over from one to another. What takes
     // long has a thread of its own: a transfer or a hash, of which each session may have one, and
     // what SIGHUP asks for.
@@ -100,18 +106,15 @@ fn start(settings: Settings) -> io::Result<()> {
 
 /// Serves the folder until a signal ends that.
 async fn serve(settings: Settings) -> io::Result<()> {
-    let mut listeners = Vec::new();
-    for address in &settings.listen {
-        let listener = TcpListener::bind(address).await;
-        listeners.push(listener.map_err(|error| about(&address.to_string(), error))?);
-    }
+    let listeners = listening::bind(&settings.common.listen).await?;
+    // what is read from here on, that user has to be allowed to read
+    settings.common.identity.take()?;
     let limits = settings.limits;
     listening::compare_descriptors(limits.connections, OF_A_SESSION);
     let hangups = signal(SignalKind::hangup())?;
     let (newest, server) = watch::channel(Arc::new(Server::read(settings)?));
     tokio::spawn(read_again(hangups, newest));
-    let ports = listeners.iter().map(|it| Ok(it.local_addr()?.port().to_string()));
-    print(&ports.collect::<io::Result<Vec<_>>>()?.join(" "))?;
+    print(&listening::ports(&listeners)?)?;
     let session = |connected| session::serve(server.borrow().clone(), connected);
     listening::serve(listeners, limits, GRACE + CLOSING, session).await
 }

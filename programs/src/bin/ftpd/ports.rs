@@ -1,18 +1,20 @@
 //! The commands that prepare a data connection.
 use crate::commands::{refuse, reply, Answer, Answered};
-use crate::data::{self, DataPort};
+use crate::data::DataPort;
 use crate::session::Session;
 use std::net::{IpAddr, SocketAddr, SocketAddrV4};
 use unftp_control::{AddressError, Error, Reply, ReplyCode as Code};
 use unftp_control_programs::address::{of_eprt, of_port};
+use unftp_control_programs::ports::listen;
 
 impl Session {
     /// Listens for a data connection.
     fn listen(&mut self) -> Result<u16, Reply> {
         // the port of a listener that was there is free again
         self.data_port = DataPort::Unset;
-        let ports = &self.server.settings.passive_ports;
-        let (listener, port) = data::listen(self.ends, ports).map_err(|error| {
+        let ports = &self.server.settings.common.passive_ports;
+        let listening = listen(self.ends.listening(), ports);
+        let (listener, port) = listening.map_err(|error| {
             tracing::warn!(%error, "no data connection can be listened for");
             Reply::new(Code::CANT_OPEN_DATA_CONNECTION, "No port is free")
         })?;
@@ -26,7 +28,8 @@ impl Session {
             IpAddr::V4(address) => Some(address),
             IpAddr::V6(_) => None,
         };
-        let Some(address) = own.map(|own| self.server.settings.public_address.unwrap_or(own))
+        let Some(address) =
+            own.map(|own| self.server.settings.common.public_address.unwrap_or(own))
         else {
             return refuse(Code::CANT_OPEN_DATA_CONNECTION, "Use EPSV over IPv6");
         };

@@ -88,9 +88,9 @@ fn read_users(settings: &Settings) -> io::Result<Arc<Users>> {
 }
 
 fn read_tls(settings: &Settings) -> io::Result<Option<TlsAcceptors>> {
-    let files = settings.tls.as_ref();
+    let files = settings.common.tls.as_ref();
     let read = |(certificates, key): &(PathBuf, PathBuf)| {
-        TlsAcceptors::read(certificates, key, settings.data_session)
+        TlsAcceptors::read(certificates, key, settings.common.data_session)
     };
     files.map(read).transpose().map_err(|error| about("the certificate or its key", error))
 }

@@ -108,15 +108,19 @@ pub async fn serve(server: Arc<Server>, connected: Connected) {
 }
 
 async fn talk(server: Arc<Server>, connected: Connected) -> io::Result<()> {
-    let Connected { tcp, peer, is_refused, stop } = connected;
+    let Connected { tcp, peer, is_implicit, is_refused, stop } = connected;
     let ends = Ends::new(peer, tcp.local_addr()?);
-    let mut control = Control::new(Stream::control(tcp)?, server.settings.stall);
+    let control = Control::new(Stream::control(tcp)?, server.settings.stall);
+    let mut session = Session::new(server, ends, stop);
+    let mut control = match is_implicit {
+        true => session.begin_privately(control).await?,
+        false => control,
+    };
     if is_refused {
         tracing::warn!("too many connections");
         return unavailable(control, "Too many connections").await;
     }
     tracing::info!("connected");
-    let mut session = Session::new(server, ends, stop);
     let begun = control.reply(Reply::new(Code::SERVICE_READY, "Ready"));
     let mut end = begun.map_err(End::from).err();
     loop {
@@ -129,15 +133,8 @@ async fn talk(server: Arc<Server>, connected: Connected) -> io::Result<()> {
                 return Ok(());
             }
         };
-        if let (None, Some(tls)) = (&end, &session.server.tls) {
-            let tls = tls.of_connection(session.ends.client);
-            let turned = control.accept_tls(&tls.control).await;
-            control = turned.map_err(|error| {
-                record::failed_handshake(&error);
-                error
-            })?;
-            session.is_tls = true;
-            session.data_tls = Some(Arc::new(tls));
+        if end.is_none() {
+            control = session.turn_to_tls(control).await?;
         }
     }
 }
@@ -177,6 +174,26 @@ impl Session {
             stop,
             deadline: Instant::now() + LOGIN_TIME,
         }
+    }
+
+    /// Turns the control connection to TLS.
+    async fn turn_to_tls(&mut self, control: Control) -> io::Result<Control> {
+        let tls = self.server.tls.as_ref().ok_or(io::ErrorKind::Unsupported)?;
+        let tls = tls.of_connection(self.ends.client);
+        let turned = control.accept_tls(&tls.control).await;
+        let control = turned.map_err(|error| {
+            record::failed_handshake(&error);
+            error
+        })?;
+        self.is_tls = true;
+        self.data_tls = Some(Arc::new(tls));
+        Ok(control)
+    }
+
+    /// Begins under TLS. Data connections are under TLS too, unless the client asks for others.
+    async fn begin_privately(&mut self, control: Control) -> io::Result<Control> {
+        (self.has_pbsz, self.is_private) = (true, true);
+        self.turn_to_tls(control).await
     }
 
     /// Answers a client's lines until the control connection is to turn to TLS.
