@@ -8,7 +8,7 @@ import subprocess
 import tempfile
 
 from proxy_session import (GREETING, HOST, PATIENCE, QUIET, REFUSED, WAYS, Program, Session, begin, certificate, held, is_closed, is_reset, passive,
-                           receive, wants)
+                           receive, received_soon, until_logged, wants)
 
 FEATURES = b"211-Features:\r\n AUTH SSL\r\n\tAUTH TLS\r\n EPSV\r\n LPRT\r\n PBSZ\r\n PROT C;P\r\n UTF8\r\n211 End\r\n"
 
@@ -320,18 +320,34 @@ def moves(session, context, client, server, line):
         session.gets(b"226 Done\r\n")
 
 
+def check_abort_protected(proxy, _):
+    """ABOR of a transfer ends the data connection of a server under TLS, which has no urgent data, unless the server answers it: some only look at
+    lines after a transfer."""
+    with tempfile.TemporaryDirectory() as folder:
+        own = certificate(folder)
+        with Protected([proxy, "--server-tls", "--server-ca", own[0]], own, HOST) as session:
+            for line in [b"STOR a\r\n", b"RETR a\r\n"]:
+                with passive(session) as (client, server):
+                    begin(session, line)
+                    with session.secured.wrap_socket(server, server_side=True) as server:
+                        session.client.sendall(b"ABOR\r\n")
+                        session.reaches(b"ABOR\r\n")
+                        wants("whether it is still open", received_soon(client), None)
+                        wants("whether both ends are closed", (is_closed(client), is_closed(server)), (True, True))
+                session.server.sendall(b"426 Aborted\r\n225 Nothing\r\n")
+                session.gets(b"426 Aborted\r\n225 Nothing\r\n")
+
+
 def refused(session, said):
     """The client of such a session gets a 421, and the log has these words."""
-    with tempfile.TemporaryFile() as log, socket.create_server((HOST, 0)) as session.listener:
+    with tempfile.TemporaryFile() as session.log, socket.create_server((HOST, 0)) as session.listener:
         session.listener.settimeout(PATIENCE)
         words = [*session.command, *session.listens, f"{session.named}:{session.listener.getsockname()[1]}"]
-        with Program(words, log) as session.program, session.connect() as client:
+        with Program(words, session.log) as session.program, session.connect() as client:
             with contextlib.suppress(OSError):  # the handshake fails
                 session.accept().close()
             wants(f"what the client gets where {said} is logged", receive(client), b"421 The server can't be reached under TLS\r\n")
-        log.seek(0)
-        logged = log.read()
-        wants(f"whether {said} is in {logged}", said in logged, True)
+            until_logged(session, said, 1)
 
 
 def check_server_refused(proxy, _):

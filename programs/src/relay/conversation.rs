@@ -10,13 +10,17 @@ use bytes::BytesMut;
 use std::future::Future;
 use std::net::SocketAddr;
 use std::sync::Arc;
+use std::time::Duration;
 use std::{io, mem};
+use tokio::time::Instant;
 use tokio_util::codec::Decoder;
 use unftp_control::{
     find_extended_port, find_host_port, Client, CodecError, Command, Error, Event, FtpLineCodec,
     OwnedLine, ReceivedReply, Reply, ReplyCode as Code, ReplyValue, To,
 };
 
+/// How long a server may take to see an ABOR by itself.
+const ABORTING: Duration = Duration::from_secs(1);
 /// How many lines may be owed their replies.
 const MOST_OWED: u64 = 64;
 
@@ -136,6 +140,9 @@ pub struct Conversation {
     pub begins_tls: bool,
     /// The last line is an ABOR of a transfer.
     pub is_urgent: bool,
+    /// When the data connection is closed of a transfer that is aborted, unless a final reply comes
+    /// before.
+    pub closes_at: Option<Instant>,
     /// A line or a reply has come since this was last cleared.
     pub is_active: bool,
     /// What the client is to be sent.
@@ -176,6 +183,7 @@ impl Conversation {
             is_closing: false,
             begins_tls: false,
             is_urgent: false,
+            closes_at: None,
             is_active: false,
             to_client: BytesMut::new(),
             to_server: Vec::new(),
@@ -373,10 +381,16 @@ impl Conversation {
         self.finish(replied, None)
     }
 
+    /// Closes the data connection of a transfer that is aborted.
+    pub fn close_transfer(&mut self) {
+        (self.closes_at, self.transfer) = (None, None);
+    }
+
     /// Passes on a final reply, or what is sent instead.
     fn finish(&mut self, replied: Replied, instead: Option<Reply>) -> Result<(), End> {
         let Replied { asked: Asked { mut exchange, purpose }, reply } = replied;
         self.is_closing = matches!(reply.code(), 221 | 421);
+        self.closes_at = None;
         if let Some(instead) = instead.or_else(|| self.rewritten(purpose, &reply)) {
             return self.answer(exchange, instead);
         }
@@ -502,6 +516,10 @@ impl Conversation {
                 asked.purpose = Purpose::PassOn;
                 self.is_urgent = true;
             }
+        }
+        // under TLS nothing is urgent, and some servers look at no line within a transfer
+        if self.is_urgent && self.to_server_tls.is_some() {
+            self.closes_at = Some(Instant::now() + ABORTING);
         }
         Ok(())
     }

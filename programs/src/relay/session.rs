@@ -7,7 +7,7 @@ use crate::listening::{Connected, Stop};
 use crate::stream::Stream;
 use crate::tls::OfConnection;
 use bytes::BytesMut;
-use std::future::{poll_fn, Future};
+use std::future::{pending, poll_fn, Future};
 use std::io;
 use std::net::{IpAddr, SocketAddr};
 use std::pin::{pin, Pin};
@@ -140,6 +140,14 @@ async fn write(
     Ok(())
 }
 
+/// Waits for a moment, or for ever.
+async fn until(moment: Option<Instant>) {
+    match moment {
+        Some(moment) => sleep_until(moment).await,
+        None => pending().await,
+    }
+}
+
 /// What was done with the control connection to the server.
 enum Moved {
     /// So many bytes were sent.
@@ -250,6 +258,7 @@ impl Session {
                 () = transferred, if self.conversation.is_holding() => {
                     self.conversation.release()?;
                 }
+                () = until(self.conversation.closes_at) => self.conversation.close_transfer(),
                 _ = self.stop.changed(), if !self.is_stopping => {
                     self.is_stopping = true;
                     self.deadline = Instant::now() + LINGER;
