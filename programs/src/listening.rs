@@ -1,7 +1,9 @@
 //! Listeners with limits and a clean end.
 use crate::address::unmapped;
+use listenfd::ListenFd;
 use rustix::process::{getrlimit, Resource};
 use std::collections::HashMap;
+use std::env;
 use std::future::{poll_fn, Future};
 use std::io;
 use std::net::{IpAddr, SocketAddr};
@@ -35,7 +37,8 @@ pub struct Place {
 /// What listens at a place.
 pub struct Listener {
     tcp: TcpListener,
-    is_implicit: bool,
+    /// Whether TLS begins at once there.
+    pub is_implicit: bool,
 }
 
 /// Listens at each place.
@@ -50,6 +53,25 @@ pub async fn bind(places: &[Place]) -> io::Result<Vec<Listener>> {
         let tcp =
             tcp.map_err(|error| io::Error::new(error.kind(), format!("{address}: {error}")))?;
         listeners.push(Listener { tcp, is_implicit });
+    }
+    Ok(listeners)
+}
+
+/// What systemd listens at for the program: each socket of its units (sd_listen_fds(3)). TLS begins at
+/// once where the unit's `FileDescriptorName` is `implicit-tls`.
+///
+/// # Errors
+///
+/// Where one is no socket that listens.
+pub fn given() -> io::Result<Vec<Listener>> {
+    let names = env::var("LISTEN_FDNAMES").unwrap_or_default();
+    let mut given = ListenFd::from_env();
+    let mut listeners = Vec::new();
+    for index in 0..given.len() {
+        let tcp = given.take_tcp_listener(index)?.ok_or(io::ErrorKind::InvalidInput)?;
+        tcp.set_nonblocking(true)?;
+        let is_implicit = names.split(':').nth(index) == Some("implicit-tls");
+        listeners.push(Listener { tcp: TcpListener::from_std(tcp)?, is_implicit });
     }
     Ok(listeners)
 }

@@ -1,11 +1,12 @@
 //! The options that the programs have in common.
 use crate::identity::Identity;
-use crate::listening::Place;
+use crate::listening::{self, Listener, Place};
 use crate::log::Format;
 use crate::ports::port_range;
 use crate::tls::DataSession;
 use clap::parser::ValueSource;
 use clap::{value_parser, Arg, ArgAction, ArgMatches};
+use std::io;
 use std::net::{Ipv4Addr, SocketAddr};
 use std::ops::RangeInclusive;
 use std::path::PathBuf;
@@ -57,6 +58,25 @@ impl Common {
             log: matches.get_one("log").copied().unwrap_or(LevelFilter::INFO),
             log_format: matches.get_one("log-format").copied().unwrap_or_default(),
         }
+    }
+}
+
+impl Common {
+    /// What listens: systemd's sockets, or else where the options say.
+    ///
+    /// # Errors
+    ///
+    /// Where it can't listen, or TLS is to begin at once and there is no certificate.
+    pub async fn bind(&self) -> io::Result<Vec<Listener>> {
+        let given = listening::given()?;
+        if given.is_empty() {
+            return listening::bind(&self.listen).await;
+        }
+        if self.tls.is_none() && given.iter().any(|it| it.is_implicit) {
+            let text = "a socket of systemd is named implicit-tls: --certificate is missing";
+            return Err(io::Error::new(io::ErrorKind::InvalidInput, text));
+        }
+        Ok(given)
     }
 }
 

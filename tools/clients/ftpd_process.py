@@ -8,6 +8,7 @@ import socket
 import ssl
 import stat
 import subprocess
+import sys
 import tempfile
 
 from ftpd_server import HOST, PATIENCE, Control, Server, StartedServer, certificate, child, hashed, read_all, wants
@@ -55,6 +56,43 @@ def check_implicit(program):
         process.terminate()
     refused = subprocess.run([program, "/", "--implicit-tls", f"{HOST}:0"], capture_output=True, text=True, timeout=PATIENCE, check=False)
     wants("whether it asks for a certificate", (refused.returncode, "--certificate" in refused.stderr), (2, True))
+
+
+# runs a program with sockets as systemd does: their descriptors, their names, and the program's words
+ACTIVATED = """
+import fcntl, os, sys
+numbers, names, *words = sys.argv[1:]
+high = [fcntl.fcntl(int(number), fcntl.F_DUPFD, 100) for number in numbers.split(":")]
+for index, number in enumerate(high):
+    os.dup2(number, 3 + index)
+os.environ |= {"LISTEN_PID": str(os.getpid()), "LISTEN_FDS": str(len(high)), "LISTEN_FDNAMES": names}
+os.execv(words[0], words)
+"""
+
+
+def activated(sockets, names, *words):
+    """Starts a program with sockets of systemd."""
+    numbers = ":".join(str(each.fileno()) for each in sockets)
+    command = [sys.executable, "-c", ACTIVATED, numbers, names, *words]
+    return subprocess.Popen(command, stdout=subprocess.PIPE, stderr=subprocess.PIPE, pass_fds=[each.fileno() for each in sockets])
+
+
+def check_activated(program):
+    """Sockets of systemd take the place of --listen. One that is named implicit-tls begins TLS at once."""
+    context = context_of(ssl.TLSVersion.TLSv1_2)
+    with tempfile.TemporaryDirectory(prefix="ftpd-") as folder, socket.create_server((HOST, 0)) as plain, socket.create_server((HOST, 0)) as secure:
+        ports = [each.getsockname()[1] for each in [plain, secure]]
+        with activated([plain, secure], "ftp:implicit-tls", program, folder, "--listen", f"{HOST}:0", *certificate()) as process:
+            try:
+                wants("the ports that it prints", [int(word) for word in process.stdout.readline().split()], ports)
+                with Control(socket.create_connection((HOST, ports[0]), PATIENCE)) as control:
+                    wants("the greeting", control.reply()[0], 220)
+                with begun(context, (HOST, ports[1])) as control:
+                    control.wants("QUIT", 221)
+            finally:
+                process.terminate()
+        with activated([secure], "implicit-tls", program, folder) as process:
+            wants("whether it asks for a certificate", (process.wait(PATIENCE), b"--certificate" in process.stderr.read()), (1, True))
 
 
 def check_umask(program):

@@ -88,7 +88,7 @@ pub async fn run(
 ) -> io::Result<()> {
     let common = Common::of(matches);
     let _end = log::start(common.log, common.log_format)?;
-    let listeners = listening::bind(&common.listen).await?;
+    let listeners = common.bind().await?;
     // what is read from here on, that user has to be allowed to read
     common.identity.take()?;
     let files = Files::of(matches, &common);

@@ -106,7 +106,7 @@ fn start(settings: Settings) -> io::Result<()> {
 
 /// Serves the folder until a signal ends that.
 async fn serve(settings: Settings) -> io::Result<()> {
-    let listeners = listening::bind(&settings.common.listen).await?;
+    let listeners = settings.common.bind().await?;
     // what is read from here on, that user has to be allowed to read
     settings.common.identity.take()?;
     let limits = settings.limits;

@@ -68,12 +68,14 @@ impl Sink {
     /// Writes a part, of which an empty one is the end.
     pub fn write(&mut self, part: &[u8]) -> io::Result<()> {
         match self.representation {
-            Representation::Image => self.upload.file.write_all(part),
+            Representation::Image => self.upload.file.write_all(part)?,
             Representation::Ascii => {
                 let text = without_crlf(part, &mut self.has_cr);
-                self.upload.file.write_all(&text)
+                self.upload.file.write_all(&text)?;
             }
         }
+        self.upload.wrote(part.len());
+        Ok(())
     }
 
     /// Ends a file that is whole.

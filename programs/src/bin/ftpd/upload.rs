@@ -4,7 +4,7 @@
 use crate::folder::{FilePath, Folder, New};
 use crate::transfer::size;
 use pbkdf2::password_hash::rand_core::{OsRng, RngCore};
-use rustix::fs::{self, AtFlags, FlockOperation, Mode, OFlags, Stat};
+use rustix::fs::{self, Advice, AtFlags, FlockOperation, Mode, OFlags, Stat};
 use rustix::io::{Errno, OwnedFd};
 use rustix::process::geteuid;
 use std::ffi::{OsStr, OsString};
@@ -15,6 +15,9 @@ use std::os::unix::fs::fchown;
 
 /// How names begin under which files are written. No listing shows them.
 pub const BESIDE: &[u8] = b".ftpd-upload-";
+
+/// How many bytes of a file that replaces another one may wait for the disk to begin with them.
+const AHEAD: u64 = 8 << 20;
 
 /// What happens with what came of an upload that is cut.
 #[derive(Clone, Copy, Debug, PartialEq, Eq)]
@@ -104,22 +107,22 @@ impl Target {
     /// Opens it.
     pub fn open(self) -> io::Result<Upload> {
         match self {
-            Target::Open(file) => Ok(Upload { file, entry: None, cut: Cut::Kept }),
+            Target::Open(file) => Ok(Upload::new(file, None, Cut::Kept)),
             Target::Absent(folder, path, new, cut) => {
                 let file = folder.create(&path, new)?;
                 lock(&file, FlockOperation::NonBlockingLockExclusive)?;
                 let own = new == New::Unique && cut == Cut::Removed;
                 let entry = own.then(|| Entry::own(&folder, &path)).transpose()?;
-                Ok(Upload { file, entry, cut })
+                Ok(Upload::new(file, entry, cut))
             }
             Target::Beside(folder, path, replaced, cut) => {
                 let (entry, file) = Entry::beside(&folder, &path, replaced)?;
-                Ok(Upload { file, entry: Some(entry), cut })
+                Ok(Upload::new(file, Some(entry), cut))
             }
             Target::New(folder, path, cut) => {
                 let (mut entry, file) = Entry::beside(&folder, &path, None)?;
                 entry.replaces = false;
-                Ok(Upload { file, entry: Some(entry), cut })
+                Ok(Upload::new(file, Some(entry), cut))
             }
         }
     }
@@ -131,9 +134,27 @@ pub struct Upload {
     pub file: File,
     entry: Option<Entry>,
     cut: Cut,
+    /// How many bytes were written, and with how many of them the disk was asked to begin.
+    written: u64,
+    begun: u64,
 }
 
 impl Upload {
+    fn new(file: File, entry: Option<Entry>, cut: Cut) -> Upload {
+        Upload { file, entry, cut, written: 0, begun: 0 }
+    }
+
+    /// Counts bytes that were written. ext4 writes a file to the disk before it gives it the name of
+    /// another one. Little is left of that for the end where the disk has begun before.
+    pub fn wrote(&mut self, count: usize) {
+        self.written += count as u64;
+        let left = self.written - self.begun;
+        if left >= AHEAD && self.entry.as_ref().is_some_and(|entry| entry.replaced.is_some()) {
+            let _ = fs::fadvise(&self.file, self.begun, left, Advice::DontNeed);
+            self.begun = self.written;
+        }
+    }
+
     /// Gives a file that is whole its name.
     pub fn finish(self) -> io::Result<()> {
         self.entry.map_or(Ok(()), Entry::keep)
@@ -155,7 +176,7 @@ struct Entry {
     /// The name that the file is to have, where it is another one.
     to: Option<OsString>,
     /// What it replaces, which stays locked meanwhile.
-    _replaced: Option<File>,
+    replaced: Option<File>,
     /// Whether it takes the place of what has its name then.
     replaces: bool,
     is_kept: bool,
@@ -166,7 +187,7 @@ impl Entry {
     fn own(folder: &Folder, path: &FilePath) -> io::Result<Entry> {
         let (directory, name) = folder.parent(path)?;
         let name = name.into();
-        Ok(Entry { directory, name, to: None, _replaced: None, replaces: false, is_kept: false })
+        Ok(Entry { directory, name, to: None, replaced: None, replaces: false, is_kept: false })
     }
 
     /// A new file with a name of its own beside that of a path, and with the mode of what it replaces.
@@ -183,7 +204,7 @@ impl Entry {
         let file = File::from(rustix::fd::OwnedFd::from(file));
         let to = Some(to.to_owned());
         let mut entry =
-            Entry { directory, name, to, _replaced: None, replaces: true, is_kept: false };
+            Entry { directory, name, to, replaced: None, replaces: true, is_kept: false };
         if let Some(replaced) = &replaced {
             let facts = fs::fstat(replaced)?;
             if facts.st_gid != fs::fstat(&file)?.st_gid {
@@ -192,7 +213,7 @@ impl Entry {
             }
             fs::fchmod(&file, Mode::from_raw_mode(facts.st_mode & 0o777))?;
         }
-        entry._replaced = replaced;
+        entry.replaced = replaced;
         Ok((entry, file))
     }
 
