@@ -13,11 +13,14 @@ usage: tools/checks/rust_package.py codes              the package's codes of re
        tools/checks/rust_package.py idle SERVER        clients that send too little
        tools/checks/rust_package.py limit SERVER       more connections than may be open
        tools/checks/rust_package.py stop SERVER        sessions that are open at a signal
+       tools/checks/rust_package.py files SERVER       what a client puts, lists and gets over IPv4 and IPv6, and what it may not
        tools/checks/rust_package.py speed SERVER [COUNT [CONNECTIONS]]  NOOPs a second
 
 The last line says what was compared; the status is 0 where all is right.
 """
 
+import ftplib
+import io
 import os
 import pathlib
 import re
@@ -350,6 +353,44 @@ def check_speed(program, count="100000", connections="4"):
     return f"{int(count) * len(sockets) / taken:,.0f} NOOPs a second in {connections} connections"
 
 
+def refused_code(client, line):
+    """The code of a reply that refuses a line."""
+    try:
+        return f"{client.sendcmd(line)[:3]}, no refusal"
+    except ftplib.Error as error:
+        return str(error)[:3]
+
+
+def check_files(program):
+    """Files are put, listed and read by PASV and by EPSV. A name of another folder is refused, and so is a transfer without a data connection."""
+    content = bytes(range(256)) * 5000
+    hosts = [HOST] + (["::1"] if has_ipv6() else [])
+    for host in hosts:
+        with tempfile.TemporaryDirectory() as place:
+            folder, outside = pathlib.Path(place, "folder"), pathlib.Path(place, "outside")
+            (folder / "below").mkdir(parents=True)
+            outside.write_bytes(b"outside")
+            with StartedServer([program, folder, f"[{host}]:0" if ":" in host else f"{host}:0"]) as server, ftplib.FTP(timeout=PATIENCE) as client:
+                client.connect(host, server.port)
+                client.login()
+                client.storbinary("STOR new", io.BytesIO(content))
+                wants("what is stored", (folder / "new").read_bytes(), content)
+                lines, received = [], []
+                client.retrlines("LIST", lines.append)
+                wants("the listing", [(line.split()[4], line.split()[-1]) for line in lines], [(str(len(content)), "new")])
+                wants("the names", client.nlst(), ["new"])
+                client.retrbinary("RETR /new", received.append)
+                wants("what is read", b"".join(received), content)
+                for line in ["RETR ../outside", "RETR /../outside", "STOR ../outside", "RETR below/x", "RETR ..", "RETR absent", "RETR new"]:
+                    wants(f"the code of {line}", refused_code(client, line), "550")
+                wants("what is outside", outside.read_bytes(), b"outside")
+                if host != HOST:
+                    wants("the code of PASV", refused_code(client, "PASV"), "425")
+                wants("the code of EPSV", client.sendcmd("EPSV")[:3], "229")
+                wants("the code of QUIT", client.quit()[:3], "221")
+    return f"{len(content):,} bytes at {' and '.join(hosts)}"
+
+
 CHECKS = {
     "codes": check_codes,
     "public": check_public,
@@ -363,6 +404,7 @@ CHECKS = {
     "idle": check_idle,
     "limit": check_limit,
     "stop": check_stop,
+    "files": check_files,
     "speed": check_speed,
 }
 

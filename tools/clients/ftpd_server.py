@@ -1,4 +1,4 @@
-"""The server ftpd of examples/rust as its checks start it, and a client's control connection to it."""
+"""The server ftpd as its checks start it, and a client's control connection to it."""
 
 import functools
 import os

@@ -2,6 +2,7 @@
 
 import pathlib
 import re
+import shutil
 import subprocess
 import tempfile
 
@@ -122,13 +123,38 @@ def check_rights(program):
 
 def check_units(program):
     """The words of systemd's units are those of the programs."""
-    units = pathlib.Path(__file__).resolve().parents[2] / "examples" / "rust" / "systemd"
-    for name, unit in [("ftpd", "ftpd"), ("proxy", "ftp-proxy"), ("record", "ftp-record")]:
-        text = (units / f"{unit}.service").read_text(encoding="utf-8")
+    units = pathlib.Path(__file__).resolve().parents[2] / "programs" / "systemd"
+    for name in ["ftpd", "ftp-proxy", "ftp-record"]:
+        text = (units / f"{name}.service").read_text(encoding="utf-8")
         lines = re.findall(rf"^ExecStart(?:Pre)?=/usr/local/bin/{name} (.*)$", text, re.M)
-        wants(f"whether {unit} starts {name}", bool(lines), True)
+        wants(f"whether a unit starts {name}", bool(lines), True)
         built = pathlib.Path(program).with_name(name)
         if built.exists():
             said = subprocess.run([built, "--help"], capture_output=True, text=True, timeout=PATIENCE, check=True).stdout
             options = {word for line in lines for word in line.split() if word.startswith("--")}
             wants(f"the options that {name} doesn't have", {option for option in options if option not in said}, set())
+
+
+def helped(program):
+    """The options that --help shows, with their defaults."""
+    said = subprocess.run([program, "--help"], capture_output=True, text=True, timeout=PATIENCE, check=True).stdout
+    lines = re.findall(r"^ +(?:-\w, |    )--([\w-]+)(.*)$", said, re.M)
+    return {name: "".join(re.findall(r"\[default: (.*)\]", text)) for name, text in lines}
+
+
+def check_manuals(program):
+    """The manual page of each program has the options of --help, with their defaults, and no others."""
+    pages = pathlib.Path(__file__).resolve().parents[2] / "programs" / "man"
+    for name in ["ftpd", "ftp-proxy", "ftp-record"]:
+        page = pages / f"{name}.8"
+        if shutil.which("mandoc"):
+            lint = subprocess.run(["mandoc", "-T", "lint", "-W", "warning", page], capture_output=True, text=True, timeout=PATIENCE, check=False)
+            wants(f"what mandoc says of {name}", (lint.returncode, lint.stdout), (0, ""))
+        text = page.read_text(encoding="utf-8")
+        items = re.findall(r"^\.It Fl (?:\w , Fl )?-([\w-]+).*\n((?:(?!\.It|\.El).*\n)*)", text, re.M)
+        built = pathlib.Path(program).with_name(name)
+        if built.exists():
+            options = helped(built)
+            wants(f"the options in the page of {name}", sorted(item for item, _ in items), sorted(options))
+            words = {item: set(re.split(r"[\s;]+", text.replace(". ", " ").replace(".\n", " "))) for item, text in items}
+            wants(f"the defaults that the page of {name} lacks", {item for item, default in options.items() if default and default not in words[item]}, set())

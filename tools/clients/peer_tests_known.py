@@ -1,4 +1,4 @@
-"""The tests of others that fail at the server of examples/rust, and why: each line is a pattern of names, which matches a name as a whole."""
+"""The tests of others that fail at ftpd, and why: each line is a pattern of names, which matches a name as a whole."""
 
 PROFTPD = {
     # proftpd's own

@@ -1,0 +1,18 @@
+//! What the programs share: addresses of data connections, a stream that may turn to TLS, a listener
+//! with limits and a clean end, a log that nobody waits for, and what stands between clients and a
+//! server.
+
+pub mod address;
+mod certificate;
+pub mod connection;
+pub mod identity;
+pub mod listening;
+pub mod log;
+pub mod options;
+pub mod ports;
+pub mod relay;
+pub mod server_tls;
+pub mod stream;
+pub mod telnet;
+pub mod tls;
+pub mod tls_sessions;
