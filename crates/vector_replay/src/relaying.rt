@@ -5,7 +5,6 @@ use crate::words::{CaseError, Word, Words};
 use example_callers::filter::OnlyReads;
 use example_callers::relay::{new_relay, sent_last};
 use std::alloc::AllocError;
-use std::fmt::Display;
 use unftp_control_proxy::{End, Relay};
 
 /// How many bytes an answer may have without taking memory.
@@ -20,27 +19,35 @@ struct Comes {
 
 impl Comes {
     /// Notes a part, for which there is room.
-    fn note(&mut self, part: impl Display + Drop) {
+    fn note(&mut self, part: &str) {
         let _ = write!(self.text, "{}{part}", self.separator);
         self.separator = " ";
     }
 
+    /// Notes what a side is sent.
+    fn note_bytes(&mut self, side: &str, bytes: &[u8]) {
+        if !bytes.is_empty() {
+            self.note(side);
+            let _ = write!(self.text, "={}", Quoted(bytes));
+        }
+    }
+
     /// Notes what both sides are sent.
     fn note_sent(&mut self, to_client: &[u8], to_server: &[u8]) {
-        for (side, bytes) in [("to-client", to_client), ("to-server", to_server)] {
-            if !bytes.is_empty() {
-                self.note(format_args!("{side}={}", Quoted(bytes)));
-            }
-        }
+        self.note_bytes("to-client", to_client);
+        self.note_bytes("to-server", to_server);
     }
 
     /// Notes why nothing more passes, and what both sides are sent last.
     fn note_end(&mut self, relay: &Relay<OnlyReads>, end: End) {
-        match end {
-            End::Unasked(code) => self.note(format_args!("unasked {code}")),
-            End::Malformed => self.note("malformed"),
-            End::TooLong => self.note("too-long"),
-            End::Tls => self.note("tls"),
+        self.note(match end {
+            End::Unasked(_) => "unasked",
+            End::Malformed => "malformed",
+            End::TooLong => "too-long",
+            End::Tls => "tls",
+        });
+        if let End::Unasked(code) = end {
+            let _ = write!(self.text, " {code}");
         }
         let (to_client, to_server) = sent_last(&relay.proxy, end);
         self.note_sent(to_client, to_server);

@@ -109,6 +109,20 @@ fn serve_all<H: Session>(
     }
 }
 
+/// Logs what the reader gives.
+fn log_all(
+    case: &SessionCase<'_>,
+    reader: &mut Pieces<'_, '_>,
+    room: &mut Room<'_>,
+    ends: &mut String,
+) {
+    let (mut reader, mut writer) = (Input::new(reader), Output::new(room));
+    match log_lines(case.alloc, &mut reader, &mut writer) {
+        Ok(()) => note(ends, "ok", false),
+        Err(error) => note(ends, format_args!("{error:?}"), false),
+    }
+}
+
 /// Feeds the pieces to an engine.
 fn feed<H: Session, K: Sink>(
     case: &SessionCase<'_>,
@@ -190,35 +204,35 @@ fn put_session<H: Session>(
     handler: &mut H,
     answers: &mut Answers,
 ) -> Answered {
-    let mut streams = Streams::new(case)?;
-    let (room, ends) = (&mut streams.room, &mut streams.ends);
+    let Streams {
+        mut reader,
+        mut room,
+        mut ends,
+    } = Streams::new(case)?;
     answers.begin();
     if case.is_served {
-        serve_all(case, &mut streams.reader, room, handler, ends);
+        serve_all(case, &mut reader, &mut room, handler, &mut ends);
     } else if case.has("appended") {
         // there is room for them
         let _ = room.held.extend_from_slice(case.first);
-        feed(case, &mut room.held, handler, ends);
+        feed(case, &mut room.held, handler, &mut ends);
     } else {
-        feed(case, &mut Output::new(room), handler, ends);
+        feed(case, &mut Output::new(&mut room), handler, &mut ends);
     }
-    streams.put(case, answers)
+    Streams { reader, room, ends }.put(case, answers)
 }
 
 /// `log_lines WORD.. INPUT`
 pub fn answer_log_lines(words: &mut Words<'_>, answers: &mut Answers) -> Answered {
     let case = SessionCase::read(answers.alloc, true, words)?;
-    let mut streams = Streams::new(&case)?;
-    let (mut reader, mut writer) = (
-        Input::new(&mut streams.reader),
-        Output::new(&mut streams.room),
-    );
+    let Streams {
+        mut reader,
+        mut room,
+        mut ends,
+    } = Streams::new(&case)?;
     answers.begin();
-    match log_lines(case.alloc, &mut reader, &mut writer) {
-        Ok(()) => note(&mut streams.ends, "ok", false),
-        Err(error) => note(&mut streams.ends, format_args!("{error:?}"), false),
-    }
-    streams.put(&case, answers)
+    log_all(&case, &mut reader, &mut room, &mut ends);
+    Streams { reader, room, ends }.put(&case, answers)
 }
 
 /// `serve WORD.. INPUT`, or `feed WORD.. PIECE..`
