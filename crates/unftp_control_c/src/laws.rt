@@ -128,6 +128,10 @@ pub fn rooms_are_bounded()
     // The lines of a reply have at most as many bytes as it.
     ensures lines { (bytes : Bytes) (text : Made) (out : Bytes)
         → IsFoundText bytes text → (written text out).text_length ≤ length bytes }
+{}
+
+/// So much room the lines of a log need at most.
+pub fn log_rooms_are_bounded()
     // A log line has at most 12 bytes for each byte of the line, and 42.
     ensures log_line { (number : ℕ) (line : Bytes) (bytes : Made) (out : Bytes)
         → IsLogLine number line bytes → (written bytes out).text_length ≤ 12 * length line + 42 }

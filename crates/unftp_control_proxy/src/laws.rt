@@ -38,9 +38,15 @@ pub fn one_exchange_for_each_line()
         → IsTraffic (new_proxy limits) traffic later → IsGreeted later.dialogue.answered
         → commands_owed later.dialogue ≡ 0 → later.answer ≡ None
         → length (filter is_final (client_replies traffic.steps)) ≡ suc (length traffic.lines) }
-    // The lines are the first ones of what the client sent, each sent as one line or answered by
-    // one final reply; and the replies, each whole, those of what the server sent; another that is
-    // given in place of one has its code.
+    ensures bounded { (limits : RustLimits) (traffic : Traffic) (later : ProxyState)
+        → IsTraffic (new_proxy limits) traffic later
+        → server_owes later.dialogue ≤ max 1 limits.waiting }
+{}
+
+/// The lines that were decided are the first ones of what the client sent, each sent as one line or
+/// answered by one final reply; and the replies, each whole, those of what the server sent. Another
+/// that is given in place of one has its code.
+pub fn all_that_came_is_passed()
     ensures lines { (limits : RustLimits) (traffic : Traffic) (later : ProxyState)
         → IsTraffic (new_proxy limits) traffic later → AllByRecursion IsDecidedLine traffic.lines
         × (traffic.from_client ≡ concat (client_lines traffic.lines) ++ later.client.bytes) }
@@ -48,9 +54,6 @@ pub fn one_exchange_for_each_line()
         → IsTraffic (new_proxy limits) traffic later
         → AllByRecursion IsPassedReply (passed_in traffic.steps)
         × (traffic.from_server ≡ bytes_that_came (passed_in traffic.steps) ++ later.server.bytes) }
-    ensures bounded { (limits : RustLimits) (traffic : Traffic) (later : ProxyState)
-        → IsTraffic (new_proxy limits) traffic later
-        → server_owes later.dialogue ≤ max 1 limits.waiting }
 {}
 
 /// The server is sent the lines that were decided for it, and reads these lines and no other one,

@@ -17,21 +17,24 @@ ghost use Rattle.unftp_control.specs.Conversation.{CanBeSent, KeepsMeaning, Show
 
 use unftp_control_serve::Session;
 
-/// A client that writes lines and takes replies, and a server that answers its input, understand
-/// each other, whatever the pieces in either direction: the commands arrive in their order; and
-/// where each reply is sent and plain, the client reads exactly those that the handler gives, in
-/// order. Where those to each line are some preliminary ones and then a final one, the client that
-/// cuts them after each final one has for each line of the run, at its place, what the handler said
-/// to the line there. So a refused line costs one reply, as any other. What the server writes is
-/// `text_for`, by the contract of `serve`; where its run ends, `one_run` says (RFC 959, sections
-/// 4.2, 5.3 and 5.4).
-pub fn conversation<H: Session>()
+/// The lines of a client arrive, whatever they hold.
+pub fn lines_arrive()
     // The canonical lines of the commands are these commands; and any lines are one event each.
     ensures commands { (limit : Option ℕ) (commands : List FtpCommand)
         → AllByRecursion (CanBeSent limit) commands
         → events limit (sent commands) ≡ map Command commands }
     ensures lines { (limit : Option ℕ) (lines : List Bytes) → AllByRecursion IsLine lines
         → events limit (concat lines) ≡ map (event_for limit) lines }
+{}
+
+/// A client that writes lines and takes replies, and a server that answers its input, understand
+/// each other, whatever the pieces in either direction: where each reply is sent and plain, the
+/// client reads exactly those that the handler gives, in order. Where those to each line are some
+/// preliminary ones and then a final one, the client that cuts them after each final one has for
+/// each line of the run, at its place, what the handler said to the line there. So a refused line
+/// costs one reply, as any other. What the server writes is `text_for`, by the contract of `serve`;
+/// where its run ends, `one_run` says (RFC 959, sections 4.2, 5.3 and 5.4).
+pub fn conversation<H: Session>()
     // The replies that the client has taken so far are the first ones,
     ensures so_far { (said : List H.Said) (limit : Option ℕ) (s : H.State) (input : Bytes)
         (steps : List (TakingStep (ℕ × List Bytes))) (pending later : Bytes)

@@ -8,7 +8,5 @@ returns c = record {
   fates = λ limits traffic later is. is.fates;
   complete = λ limits traffic later is greeted none_owed none_held.
       all_complete is greeted none_owed none_held;
-  lines = λ limits traffic later is. (is.lines, is.client);
-  replies = λ limits traffic later is. (is.replies, is.server);
   bounded = λ limits traffic later is. is.bounded;
 }

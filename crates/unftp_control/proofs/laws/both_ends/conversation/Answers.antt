@@ -1,13 +1,11 @@
 use Rattle.std.proofs.Common.{◌∙◌}
 use Rattle.unftp_control_defs.specs.Run.{replies, run_for, replies_by_event}
 use Rattle.unftp_control_defs.proofs.ExchangeLemmas.{length-replies_by_event}
-use Rattle.unftp_control.proofs.ConversationLemmas.{events-lines, events-sent, read_all, read_so_far, shown_turns, shows_turns}
+use Rattle.unftp_control.proofs.ConversationLemmas.{read_all, read_so_far, shown_turns, shows_turns}
 use Rattle.unftp_control.proofs.laws.both_ends.conversation.Goals as goal
 
 pub returns : goal.returns
 returns g c = record {
-  commands = events-sent;
-  lines = events-lines;
   so_far = λ said limit s input steps pending later readable are whole.
       read_so_far (replies (g.H.Session.law said) s (run_for limit (g.H.Session.law said) s input))
       readable steps pending are later whole;
