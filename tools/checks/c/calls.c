@@ -473,24 +473,24 @@ static void check_log_lines(void)
 }
 
 /* The line of an exchange, with just enough room, which is no more than the header says. */
-static struct bytes logged_exchange(const char *shown, struct bytes replies)
+static struct bytes logged_exchange(const char *shown, struct bytes given)
 {
     struct bytes none = area_of(0), less, out;
     size_t len = strlen(shown), room, again;
 
-    wants(unftp_log_exchange(shown, len, replies.at, replies.len, none.at, 0, &room)
+    wants(unftp_log_exchange(shown, len, given.at, given.len, none.at, 0, &room)
               == UNFTP_NO_ROOM,
           "an exchange has a line");
     free_area(none);
-    wants(room <= len + 4 * replies.len + 3, "its line needs no more than the header says");
+    wants(room <= len + 4 * given.len + 3, "its line needs no more than the header says");
     less = area_of(room - 1);
-    wants(unftp_log_exchange(shown, len, replies.at, replies.len, less.at, room - 1, &again)
+    wants(unftp_log_exchange(shown, len, given.at, given.len, less.at, room - 1, &again)
                   == UNFTP_NO_ROOM
               && again == room && is_filling(less),
           "its line needs this room");
     free_area(less);
     out = area_of(room);
-    wants(unftp_log_exchange(shown, len, replies.at, replies.len, out.at, room, &again)
+    wants(unftp_log_exchange(shown, len, given.at, given.len, out.at, room, &again)
                   == UNFTP_DONE
               && again == room,
           "its line has just enough room");
