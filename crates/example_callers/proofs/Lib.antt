@@ -6,6 +6,6 @@ mod TlsLemmas
 pub mod DataAnswersLemmas
 pub mod TransferLemmas
 pub mod TransferRunLemmas
-pub mod OutcomeLemmas
+pub mod TransferOutcomeLemmas
 pub mod TransferLawLemmas
 mod LogLemmas

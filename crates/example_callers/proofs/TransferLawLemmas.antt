@@ -12,7 +12,7 @@ use Rattle.example_callers.specs.TransferLaws.{AtEvent, ComesBack, Retrieves, St
 use Rattle.example_callers.specs.Transfers.{TransferOutcome, TransferState, final_reply, restart_reply, beyond_end_reply, first_reply, with_opening, opening_reply, receiving, sending, stored, transfer_of, transfers_law}
 use Rattle.example_callers.specs.declared.transfers.transfer.Ending.{Ending}
 use Rattle.example_callers.specs.declared.transfers.transfer.Ending.TheVariants.{Complete}
-use Rattle.example_callers.proofs.OutcomeLemmas.{completed, retrieve-sends, retrieve-takes, store-receives}
+use Rattle.example_callers.proofs.TransferOutcomeLemmas.{completed, retrieve-sends, retrieve-takes, store-receives}
 
 abbrev outcome_of_retr : List DataAnswer → TransferState → TransferOutcome
 outcome_of_retr answers s = with_opening (sending (drop s.offset s.file)) (drop s.used answers)

@@ -1,4 +1,4 @@
-//! Callers of the library: the snippets of README.md and docs/GUIDE.md, which are proved here.
+//! Callers of the library: the snippets of docs/RATTLE.md, which are proved here.
 #![tactic(auto)]
 
 pub mod client;

@@ -22,7 +22,7 @@ tells = search rules
 pub own : IsNumeralModel AreDigits (digits_value 10)
 own = numerals_by_value AreDigits tells
 
--- one more digit
+-- the digit at this place, and the number that the digits up to it are
 pub record IsDigitRun (text : Bytes) (i : ℕ) : Type 0 where
   pub digit : 48 ≤ get_or text i 0
   pub value : digits_value 10 (take (i + 1) text)

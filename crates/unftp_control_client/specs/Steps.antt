@@ -58,7 +58,7 @@ AreDialogueSteps before [] after = after ≡ before
 AreDialogueSteps before (step ∷ steps) after =
     (next : Dialogue) × IsDialogueStep before step next × AreDialogueSteps next steps after
 
--- the lines that were sent
+-- the line that a step sends, and those of some steps
 abbrev pub sent_line : ClientStep → Option Bytes
 sent_line (SentLine line) = Some line
 sent_line _ = None

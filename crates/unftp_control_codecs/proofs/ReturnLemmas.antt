@@ -1,4 +1,4 @@
--- A value with a CR is none that a command with a type of its own takes: so the answer is the same
+-- A value with a CR is none that a command with a type of its own takes: so the outcome is the same
 -- with and without the NULs.
 use Rattle.std.proofs.Common.{◌≡◌, ◌⊎◌, inl, inr, ℕ, false, List as Sequence, [], ◌∷◌, ◌++◌, true, Err, bytes_eq, refl, sym, ap, subst, ◌∙◌, ⊎_elim}
 use Rattle.std.specs.List.{list_all}

@@ -14,7 +14,7 @@ use Rattle.unftp_control_message.specs.declared.parts.Value.{Value}
 use Rattle.unftp_control_message.specs.declared.reply.error.parse_error.ParseErrorKind.{ParseErrorKind}
 use Rattle.unftp_control_message.specs.declared.reply.error.parse_error.ParseErrorKind.TheVariants as kind
 
--- The answer is a command that holds bytes. No refusal takes memory.
+-- The outcome is a command that holds bytes. No refusal takes memory.
 abbrev pub AnswerMayTakeMemory : Outcome → Type 0
 AnswerMayTakeMemory (Ok command) = 0 < held_len command
 AnswerMayTakeMemory (Err refusal) = ⊥
@@ -34,7 +34,7 @@ abbrev pub OnOutOfMemory : {T : Type 0} → Result T ParseErrorKind → Type 0 �
 OnOutOfMemory (Ok x) P = ⊤
 OnOutOfMemory (Err error) P = IfOutOfMemory error P
 
--- A part of the parser returns this answer, and runs out of memory only where it may take some.
+-- A part of the parser returns this outcome, and runs out of memory only where it may take some.
 abbrev pub FailsWith : Outcome → ParseErrorKind → Type 0
 FailsWith answer kind.OutOfMemory = AnswerMayTakeMemory answer
 FailsWith answer error = Refuses answer error
@@ -43,7 +43,7 @@ abbrev pub ParsesTo : Outcome → Result Command ParseErrorKind → Type 0
 ParsesTo answer (Ok command) = answer ≡ Ok (command_of command)
 ParsesTo answer (Err error) = FailsWith answer error
 
--- A part of the parser refuses what this answer refuses, and takes no memory.
+-- A part of the parser refuses where this outcome is that refusal, and takes no memory.
 abbrev pub IsRefusal : Outcome → ParseErrorKind → Type 0
 IsRefusal answer kind.OutOfMemory = ⊥
 IsRefusal answer error = Refuses answer error

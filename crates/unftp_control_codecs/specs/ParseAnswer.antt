@@ -1,4 +1,4 @@
--- What an answer of the parser means for a line.
+-- What the parser returns for the outcome of a line.
 use Rattle.std.specs.Prelude.{◌≡◌, ⊤, Result, Ok, Err}
 use Rattle.unftp_control_defs.specs.FtpCommand.{InvalidCommand, InvalidUtf8, InvalidEol, Outcome}
 use Rattle.unftp_control_message.specs.declared.Command.{Command}
@@ -6,7 +6,7 @@ use Rattle.unftp_control_message.specs.CommandMeaning.{command_of}
 use Rattle.unftp_control_message.specs.declared.reply.error.parse_error.ParseErrorKind.{ParseErrorKind}
 use Rattle.unftp_control_message.specs.declared.reply.error.parse_error.ParseErrorKind.TheVariants as kind
 
--- the answer is that refusal; running out of memory refuses no line
+-- the outcome is that refusal; running out of memory refuses no line
 abbrev pub Refuses : Outcome → ParseErrorKind → Type 0
 Refuses answer kind.InvalidCommand = answer ≡ Err InvalidCommand
 Refuses answer kind.InvalidUtf8 = answer ≡ Err InvalidUtf8

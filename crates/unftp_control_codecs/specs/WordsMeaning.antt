@@ -9,7 +9,7 @@ use Rattle.unftp_control_codecs.specs.Memory.{IsRefusal}
 use Rattle.unftp_control_codecs.specs.declared.line_parser.parser.Words.{Words}
 use Rattle.unftp_control_message.specs.declared.reply.error.parse_error.ParseErrorKind.{ParseErrorKind}
 
--- the answer is what the verb makes of the parameter
+-- the outcome is what the verb makes of the parameter
 pub record AreWords (answer : Outcome) (words : Words) : Type 0 where
   pub read : answer
       ≡ parameter_answer words.kind words.verb (upper words.name.now) words.parameter.now

@@ -16,7 +16,7 @@ use Rattle.unftp_control_defs.specs.declared.verb.Verb.{Verb}
 use Rattle.unftp_control_defs.specs.declared.verb.Verb.TheVariants as verb
 use Rattle.unftp_control_defs.specs.Outcome.{outcome, parameter_answer, site_answer, value_answer, word_answer}
 use Rattle.unftp_control_defs.specs.Canonical.{HasLine, IsUpperCaseName}
-use Rattle.unftp_control_defs.proofs.AnswerLemmas.{IsSound, Gives, passed, taken_gives}
+use Rattle.unftp_control_defs.proofs.SoundLemmas.{IsSound, Gives, passed, taken_gives}
 use Rattle.unftp_control_defs.proofs.CaseLemmas.{IsUtf8-upper}
 use Rattle.unftp_control_defs.proofs.LineEndLemmas.{EndsAtLf, IsLine-ends, parameter_of-ends, value_of-lacks}
 use Rattle.unftp_control_defs.proofs.RuleLemmas.{IsNameOf, unnamed, verb_makes}

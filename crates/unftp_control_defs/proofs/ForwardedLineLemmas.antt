@@ -18,7 +18,7 @@ use Rattle.unftp_control_defs.specs.declared.verb.Verb.TheVariants as verb
 use Rattle.unftp_control_defs.specs.Outcome.{outcome, parameter_answer, site_answer, value_answer, word_answer}
 use Rattle.unftp_control_defs.specs.Canonical.{canonical_line, HasLine}
 use Rattle.unftp_control_defs.specs.Forwarded.{keeps_parameter, begins_with_lf, begins_end, before_end, with_parameter, kept_line, forwarded_line}
-use Rattle.unftp_control_defs.proofs.AnswerLemmas.{passed}
+use Rattle.unftp_control_defs.proofs.SoundLemmas.{passed}
 use Rattle.unftp_control_defs.proofs.CanonicalLineLemmas.{outcome-canonical_line}
 use Rattle.unftp_control_defs.proofs.CanonicalLineEndLemmas.{IsLine-canonical_line}
 use Rattle.unftp_control_defs.proofs.CommandLineLemmas.{HasLine-outcome, HasTypedFields-outcome, uppercased_name, uppercased_utf8}

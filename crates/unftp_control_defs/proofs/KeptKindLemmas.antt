@@ -20,7 +20,7 @@ use Rattle.unftp_control_defs.specs.declared.verb.Verb.TheVariants as verb
 use Rattle.unftp_control_defs.proofs.LossyLemmas.{kept-utf8_lossy}
 use Rattle.unftp_control_defs.proofs.SaidLemmas.{fits, other_fits, site_fits}
 
--- what a line of the answer's command does
+-- what a line of the outcome's command does
 abbrev KeepsAs : Bool → Outcome → Type 0
 KeepsAs keeps (Ok command) = kind_keeps (kind (said command).verb) ≡ keeps
 KeepsAs keeps (Err refusal) = ⊤

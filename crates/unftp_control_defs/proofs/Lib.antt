@@ -22,7 +22,7 @@ pub mod NameLemmas
 pub mod CanonicalLineLemmas
 pub mod CanonicalLineEndLemmas
 pub mod LineEndLemmas
-pub mod AnswerLemmas
+pub mod SoundLemmas
 pub mod RuleLemmas
 pub mod CommandLineLemmas
 pub mod ForwardedLineLemmas

@@ -11,7 +11,7 @@ use Rattle.unftp_control_defs.specs.declared.parameters.Choice.TheVariants as ch
 use Rattle.unftp_control_defs.specs.declared.verb.Verb.{Verb}
 use Rattle.unftp_control_defs.specs.declared.verb.Verb.TheVariants as verb
 use Rattle.unftp_control_defs.specs.Canonical.{IsUpperCaseName}
-use Rattle.unftp_control_defs.proofs.AnswerLemmas.{IsTyped-raw, Makes, named_text_makes, nothing_makes, number_makes, optional_raw_makes, optional_text_makes, raw_makes, sound, text_makes}
+use Rattle.unftp_control_defs.proofs.SoundLemmas.{IsTyped-raw, Makes, named_text_makes, nothing_makes, number_makes, optional_raw_makes, optional_text_makes, raw_makes, sound, text_makes}
 
 -- the row that is found, with its name
 pub found : {A : Type 0} (P : Bytes → A → Type 0) (name : Bytes) (rows : List (Bytes × A)) {x : A}

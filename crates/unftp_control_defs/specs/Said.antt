@@ -95,7 +95,7 @@ HasTypedFields command = IsTyped (said command).value
 abbrev pub outcome_of : Said → Outcome
 outcome_of parts = command_by parts.verb parts.name parts.value
 
--- The answer is a command of which this is said.
+-- The outcome is a command of which this is said.
 abbrev pub MeansCommand : Outcome → Said → Type 0
 MeansCommand (Ok command) parts = said command ≡ parts
 MeansCommand (Err refusal) parts = ⊥

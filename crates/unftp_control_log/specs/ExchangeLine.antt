@@ -1,5 +1,5 @@
--- An exchange as one line of a log: its line, an arrow, and its replies, each as its code and its
--- lines, as `RETR a -> 150 Opening | 226 Done`.
+-- An exchange as one line of a log: its line, an arrow, and its replies, each as its code, a number
+-- without leading zeros, and its lines, as `RETR a -> 150 Opening | 226 Done`.
 use Rattle.std.specs.Prelude.{List, [], ◌∷◌, ◌++◌, decimal, flat_map, Option, None, Some, codes}
 use Rattle.unftp_control_defs.specs.Bytes.{Bytes, SP}
 use Rattle.unftp_control_log.specs.LogLine.{shown}

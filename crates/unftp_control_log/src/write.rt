@@ -142,8 +142,8 @@ fn append_exchange(exchange: &Exchange, buf: &mut Vec<u8>) -> Result<(), AllocEr
 /// Appends the exchange as one line of a log, without a line end, and changes no earlier byte of
 /// `buf`: its line, `->`, and its replies with ` | ` between two of them. A reply is its code, and
 /// after a space its text, if any, in the escapes of Rust's `escape_ascii`, with an escaped CR LF
-/// between two lines. So it is `USER bob -> 331 Need password`, `RETR a -> 150 Opening | 226 Done`, and for
-/// the greeting `-> 220 Ready`.
+/// between two lines. So it is `USER bob -> 331 Need password`, `RETR a -> 150 Opening | 226 Done`,
+/// and for the greeting `-> 220 Ready`. A code is written as a number, so 000 as `0`.
 ///
 /// It takes no memory but what `buf` needs, and fails only where `buf` has no room for the line and
 /// can't grow. `buf` is then as it was.

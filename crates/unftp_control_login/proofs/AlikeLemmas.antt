@@ -11,7 +11,7 @@ use Rattle.unftp_control_defs.specs.Lines.{incomplete_line, lines_of}
 use Rattle.unftp_control_defs.specs.Outcome.{outcome}
 use Rattle.unftp_control_defs.specs.Run.{SessionLaw, after, all_replies, at_each, last_state, replies, replies_to, run_of, turn_replies, state_after, text_for, text_of, turn}
 use Rattle.unftp_control_defs.proofs.LineEventLemmas.{events-after, events-canonical_line}
-use Rattle.unftp_control_defs.proofs.AnswerLemmas.{IsTyped-raw}
+use Rattle.unftp_control_defs.proofs.SoundLemmas.{IsTyped-raw}
 use Rattle.unftp_control_codecs.specs.Memory.{AnswerMayTakeMemory, MayTakeMemory}
 use Rattle.unftp_control_serve.specs.Decoder.{FirstMayRunOut}
 use Rattle.unftp_control_serve.specs.Endings.{Cause, Finished, Write, Handler, LineMemory, ReplyMemory, EndsAt, HasAnswered, Unsent, whole_text}

@@ -81,7 +81,7 @@ held_len (Site name arguments) = length name + length arguments
 held_len (Other name arguments) = length name + length arguments
 held_len command = said_len (said command)
 
--- The answer is a refusal; or memory ran out for so many bytes.
+-- The outcome is a refusal; or memory ran out for so many bytes.
 abbrev pub Fails : Outcome → ℕ → ParseErrorKind → Type 0
 Fails answer len kind.InvalidCommand = answer ≡ Err InvalidCommand
 Fails answer len kind.OutOfMemory = 0 < len

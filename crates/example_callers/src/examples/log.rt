@@ -63,7 +63,8 @@ pub fn errors_come_in_time()
         → v.pieces ≡ codes "NOOP\r\nNO" ∷ [] → v.between.taken ≡ codes "x" → ⊥ }
 {}
 
-/// Which errors `log_lines` returns: a read failed once more where that is the error, and else none did.
+/// Which errors `log_lines` returns: a read failed once more where that is the error, and else none
+/// did.
 pub fn errors_of_a_log()
     ensures read { (error : _) → LogEnded None (appended_output []) (appended_output [])
         (record { given = []; reads = []; failures = 2; remaining = None })

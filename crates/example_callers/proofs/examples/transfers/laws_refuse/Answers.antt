@@ -1,6 +1,6 @@
 use Rattle.std.proofs.Common.{◌≡◌, ℕ, List, [], ◌∷◌, length, refl, ap, arith}
 use Rattle.example_callers.specs.declared.transfers.transfer.Ending.TheVariants.{Complete, Aborted}
-use Rattle.example_callers.proofs.OutcomeLemmas.{completed}
+use Rattle.example_callers.proofs.TransferOutcomeLemmas.{completed}
 use Rattle.example_callers.proofs.examples.transfers.laws_refuse.Goals as goal
 
 abbrev first_byte : List ℕ → ℕ
