@@ -24,7 +24,7 @@ pub fn serve_members<R: Read, W: Write, A: Accounts + Drop, H: Session + Drop>(
 ) -> Result<Served, ServeError>
     // exactly the replies of gate and handler to the lines that were read are written, by
     // all that the handler has heard
-    ensures serves { (heard : List H.Said) × (state : Gated H.State) × (failures : ℕ)
+    ensures serves { (heard : List H.Heard) × (state : Gated H.State) × (failures : ℕ)
         × IfOk result (Serves (Some 4096) (gated_law (H.law heard))
         (snapshot (limited_to 3 (closed (A.accepts accounts) (H.state handler)))
         (H.failures handler) (output_state_of W.contents writer.old))
@@ -32,7 +32,7 @@ pub fn serve_members<R: Read, W: Write, A: Accounts + Drop, H: Session + Drop>(
         (input_state_of R.remaining reader.old) (input_state_of R.remaining reader.new)) }
     // a reply that reports no failure, among those to a command that needs a login, comes only
     // after a name and a password that the accounts accept
-    ensures members { ((heard : List H.Said) → SendsPlainExchanges (H.law heard) (H.state handler))
+    ensures members { ((heard : List H.Heard) → SendsPlainExchanges (H.law heard) (H.state handler))
         → OnOk result ((read written : Bytes)
         × HasRead (input_state_of R.remaining reader.old) (input_state_of R.remaining reader.new)
         read
@@ -40,7 +40,7 @@ pub fn serve_members<R: Read, W: Write, A: Accounts + Drop, H: Session + Drop>(
         written
         × MembersAlone (Some 4096) (A.accepts accounts) read written) }
     // and all that `serve_with_limit` says at each error, for some last state
-    ensures err { (heard : List H.Said) × (state : Gated H.State) × (failures : ℕ)
+    ensures err { (heard : List H.Heard) × (state : Gated H.State) × (failures : ℕ)
         × IfErr result (ServeEnded (Some 4096) (gated_law (H.law heard))
         (snapshot (limited_to 3 (closed (A.accepts accounts) (H.state handler)))
         (H.failures handler) (output_state_of W.contents writer.old))

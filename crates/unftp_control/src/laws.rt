@@ -149,10 +149,10 @@ pub fn epsv_ports_differ()
 pub fn any_cutting<H: Session>()
     ensures same_events { (limit : Option ℕ) (pieces : List Bytes)
         → events_in_turn limit [] pieces ≡ events limit (concat pieces) }
-    ensures replies { (said : List H.Said) (limit : Option ℕ) (s : H.State)
+    ensures replies { (heard : List H.Heard) (limit : Option ℕ) (s : H.State)
         (pieces : List Bytes)
-        → replies_in_turn limit (H.law said) s [] pieces
-        ≡ replies (H.law said) s (run_for limit (H.law said) s (concat pieces)) }
+        → replies_in_turn limit (H.law heard) s [] pieces
+        ≡ replies (H.law heard) s (run_for limit (H.law heard) s (concat pieces)) }
 {}
 
 /// A handler with one reply to each event gives as many replies as it takes events.
@@ -192,56 +192,56 @@ pub fn lines_of_events()
 /// Bytes after the line that ended the session change nothing: not what is written, nor the
 /// handler's state, nor which bytes are scanned.
 pub fn nothing_after_the_end<H: Session>()
-    ensures text { (said : List H.Said) (limit : Option ℕ) (s : H.State)
+    ensures text { (heard : List H.Heard) (limit : Option ℕ) (s : H.State)
         (input more other : Bytes)
-        → ends_for limit (H.law said) s input ≡ true
-        → text_for limit (H.law said) s (input ++ more)
-        ≡ text_for limit (H.law said) s (input ++ other) }
-    ensures state { (said : List H.Said) (limit : Option ℕ) (s : H.State)
+        → ends_for limit (H.law heard) s input ≡ true
+        → text_for limit (H.law heard) s (input ++ more)
+        ≡ text_for limit (H.law heard) s (input ++ other) }
+    ensures state { (heard : List H.Heard) (limit : Option ℕ) (s : H.State)
         (input more other : Bytes)
-        → ends_for limit (H.law said) s input ≡ true
-        → last_state (H.law said) s (run_for limit (H.law said) s (input ++ more))
-        ≡ last_state (H.law said) s (run_for limit (H.law said) s (input ++ other)) }
-    ensures unread { (said : List H.Said) (limit : Option ℕ) (s : H.State)
+        → ends_for limit (H.law heard) s input ≡ true
+        → last_state (H.law heard) s (run_for limit (H.law heard) s (input ++ more))
+        ≡ last_state (H.law heard) s (run_for limit (H.law heard) s (input ++ other)) }
+    ensures unread { (heard : List H.Heard) (limit : Option ℕ) (s : H.State)
         (input more : Bytes)
-        → ends_for limit (H.law said) s input ≡ true
-        → after_end limit (H.law said) s (input ++ more)
-        ≡ after_end limit (H.law said) s input ++ more }
+        → ends_for limit (H.law heard) s input ≡ true
+        → after_end limit (H.law heard) s (input ++ more)
+        ≡ after_end limit (H.law heard) s input ++ more }
 {}
 
 /// A run ends with the first event that leaves the handler done, and has no later one; where none
 /// does, it has all events. The lines of its events, and then the unread bytes, are the input.
 pub fn one_run<H: Session>()
-    ensures nowhere { (said : List H.Said) (s : H.State) (events : List FtpEvent)
-        → EndsNowhere (H.law said) s events ↔ (ends (H.law said) s events ≡ false) }
-    ensures all { (said : List H.Said) (s : H.State) (events : List FtpEvent)
-        → EndsNowhere (H.law said) s events → run_of (H.law said) s events ≡ events }
-    ensures ended { (said : List H.Said) (s : H.State) (events first : List FtpEvent)
+    ensures nowhere { (heard : List H.Heard) (s : H.State) (events : List FtpEvent)
+        → EndsNowhere (H.law heard) s events ↔ (ends (H.law heard) s events ≡ false) }
+    ensures all { (heard : List H.Heard) (s : H.State) (events : List FtpEvent)
+        → EndsNowhere (H.law heard) s events → run_of (H.law heard) s events ≡ events }
+    ensures ended { (heard : List H.Heard) (s : H.State) (events first : List FtpEvent)
         (event : FtpEvent)
-        → EndsAfter (H.law said) s events first event
-        → (run_of (H.law said) s events ≡ first ++ event ∷ [])
-        × (ends (H.law said) s events ≡ true) }
-    ensures found { (said : List H.Said) (s : H.State) (events : List FtpEvent)
-        → ends (H.law said) s events ≡ true
+        → EndsAfter (H.law heard) s events first event
+        → (run_of (H.law heard) s events ≡ first ++ event ∷ [])
+        × (ends (H.law heard) s events ≡ true) }
+    ensures found { (heard : List H.Heard) (s : H.State) (events : List FtpEvent)
+        → ends (H.law heard) s events ≡ true
         → (first : List FtpEvent) × (event : FtpEvent)
-        × EndsAfter (H.law said) s events first event }
-    ensures unread { (said : List H.Said) (limit : Option ℕ) (s : H.State) (input : Bytes)
-        → concat (take (length (run_for limit (H.law said) s input)) (lines_of input))
-        ++ unread limit (H.law said) s input ≡ input }
+        × EndsAfter (H.law heard) s events first event }
+    ensures unread { (heard : List H.Heard) (limit : Option ℕ) (s : H.State) (input : Bytes)
+        → concat (take (length (run_for limit (H.law heard) s input)) (lines_of input))
+        ++ unread limit (H.law heard) s input ≡ input }
 {}
 
 /// The run of a handler that is never done has all events, and leaves the incomplete line.
 pub fn never_done<H: Session>()
-    ensures run { (said : List H.Said) → ((s : H.State) → (H.law said).done s ≡ false)
+    ensures run { (heard : List H.Heard) → ((s : H.State) → (H.law heard).done s ≡ false)
         → (limit : Option ℕ) (s : H.State) (input : Bytes)
-        → run_for limit (H.law said) s input ≡ events limit input }
-    ensures end { (said : List H.Said) → ((s : H.State) → (H.law said).done s ≡ false)
+        → run_for limit (H.law heard) s input ≡ events limit input }
+    ensures end { (heard : List H.Heard) → ((s : H.State) → (H.law heard).done s ≡ false)
         → (limit : Option ℕ) (s : H.State) (input : Bytes)
-        → ends_for limit (H.law said) s input ≡ false }
-    ensures unread { (said : List H.Said) → ((s : H.State) → (H.law said).done s ≡ false)
+        → ends_for limit (H.law heard) s input ≡ false }
+    ensures unread { (heard : List H.Heard) → ((s : H.State) → (H.law heard).done s ≡ false)
         → (limit : Option ℕ) (s : H.State) (input : Bytes)
-        → (unread limit (H.law said) s input ≡ incomplete_line input)
-        × (after_end limit (H.law said) s input ≡ []) }
+        → (unread limit (H.law heard) s input ≡ incomplete_line input)
+        × (after_end limit (H.law heard) s input ≡ []) }
 {}
 
 /// A limit changes nothing for an input whose lines are within it; and of a line that is longer,

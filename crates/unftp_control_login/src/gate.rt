@@ -92,7 +92,7 @@ impl<A: Accounts, H: Session> Gate<A, H> {
         text: &str,
     ) -> Result<Reply, ControlChanError>
         ensures handler { self.new.inner.handler ≡ self.old.inner.handler }
-        ensures decided { (said : List H.Said) → Decided H.state H.failures (H.law said)
+        ensures decided { (heard : List H.Heard) → Decided H.state H.failures (H.law heard)
             self.old.inner self.new.inner (limited self.old.limit.left true
             (Answers (CodeAndMsg (number_of code) text.now))) result }
         ensures left { self.new.limit.left ≡ one_fewer self.old.limit.left }
@@ -113,8 +113,8 @@ impl<A: Accounts, H: Session> Gate<A, H> {
     /// Takes a password for the name that was given.
     fn take_password(&mut self, alloc: Global, password: &[u8]) -> Result<Reply, ControlChanError>
         ensures heard { Begins (H.heard self.new.inner.handler) (H.heard self.old.inner.handler) }
-        ensures answers { (said : List H.Said) → Begins said (H.heard self.new.inner.handler)
-            → GateAnswers A.accepts H.state H.failures (H.law said) self.old self.new
+        ensures answers { (heard : List H.Heard) → Begins heard (H.heard self.new.inner.handler)
+            → GateAnswers A.accepts H.state H.failures (H.law heard) self.old self.new
             (event.Command (Pass password.now)) result }
         ensures asked { self.new.accounts.questions ≡ self.old.accounts.questions
             ++ questions self.old.stage (event.Command (Pass password.now)) }
@@ -138,8 +138,8 @@ impl<A: Accounts, H: Session> Gate<A, H> {
     /// Lets the handler know who has logged in. Nobody has where it fails.
     fn admit(&mut self, alloc: Global, username: Bytes) -> Result<Reply, ControlChanError>
         ensures heard { Begins (H.heard self.new.inner.handler) (H.heard self.old.inner.handler) }
-        ensures decided { (said : List H.Said) → Begins said (H.heard self.new.inner.handler)
-            → Decided H.state H.failures (H.law said) self.old.inner self.new.inner
+        ensures decided { (heard : List H.Heard) → Begins heard (H.heard self.new.inner.handler)
+            → Decided H.state H.failures (H.law heard) self.old.inner self.new.inner
             (LogsIn username) result }
         ensures stage { OnOk result (self.new.stage ≡ Stage.LoggedIn) }
         ensures nobody { OnErr result (self.new.stage ≡ self.old.stage) }
@@ -169,8 +169,8 @@ impl<A: Accounts, H: Session> Gate<A, H> {
     fn take_other(&mut self, alloc: Global, event: Event) -> Result<Reply, ControlChanError>
         requires { is_login (event_meant event) ≡ false }
         ensures heard { Begins (H.heard self.new.inner.handler) (H.heard self.old.inner.handler) }
-        ensures answers { (said : List H.Said) → Begins said (H.heard self.new.inner.handler)
-            → GateAnswers A.accepts H.state H.failures (H.law said) self.old self.new
+        ensures answers { (heard : List H.Heard) → Begins heard (H.heard self.new.inner.handler)
+            → GateAnswers A.accepts H.state H.failures (H.law heard) self.old self.new
             (event_meant event) result }
         ensures asked { self.new.accounts.questions ≡ self.old.accounts.questions
             ++ questions self.old.stage (event_meant event) }
@@ -191,8 +191,8 @@ impl<A: Accounts, H: Session> Gate<A, H> {
     /// handler fails.
     fn pass_on(&mut self, alloc: Global, event: Event) -> Result<Reply, ControlChanError>
         ensures heard { Begins (H.heard self.new.inner.handler) (H.heard self.old.inner.handler) }
-        ensures decided { (said : List H.Said) → Begins said (H.heard self.new.inner.handler)
-            → Decided H.state H.failures (H.law said) self.old.inner self.new.inner
+        ensures decided { (heard : List H.Heard) → Begins heard (H.heard self.new.inner.handler)
+            → Decided H.state H.failures (H.law heard) self.old.inner self.new.inner
             (PassesOn (event_meant event)) result }
         ensures stage { self.new.stage
             ≡ (if flushes_login (event_meant event) then Stage.NoName else self.old.stage) }
@@ -214,13 +214,13 @@ impl<A: Accounts, H: Session> Gate<A, H> {
 impl<A: Accounts, H: Session> Session for Gate<A, H> {
     ghost State = { Gated H.State };
 
-    ghost Said = { H.Said };
+    ghost Heard = { H.Heard };
 
     ghost state = { gated A.accepts H.state };
 
     ghost heard = { λ gate. H.heard gate.inner.handler };
 
-    ghost law = { λ said. gated_law (H.law said) };
+    ghost law = { λ heard. gated_law (H.law heard) };
 
     ghost left = { λ state. H.left state.inner };
 
@@ -236,14 +236,14 @@ impl<A: Accounts, H: Session> Session for Gate<A, H> {
     /// own reply, if it has one: an error is returned where one of these failed (`calls`).
     fn first(&mut self, alloc: Global, event: Event) -> Result<Reply, ControlChanError>
         ensures heard { Begins (H.heard self.new.inner.handler) (H.heard self.old.inner.handler) }
-        ensures answers { (said : List H.Said) → Begins said (H.heard self.new.inner.handler)
-            → FirstAnswer (gated_law (H.law said)) (gated A.accepts H.state self.old)
+        ensures answers { (heard : List H.Heard) → Begins heard (H.heard self.new.inner.handler)
+            → FirstAnswer (gated_law (H.law heard)) (gated A.accepts H.state self.old)
             (gated A.accepts H.state self.new) (failures_of H.failures self.old.inner)
             (failures_of H.failures self.new.inner) (event_meant event) result }
         ensures asked { self.new.accounts.questions ≡ self.old.accounts.questions
             ++ questions self.old.stage (event_meant event) }
-        ensures calls { (said : List H.Said) → Begins said (H.heard self.new.inner.handler)
-            → GateCalled H.failures (H.law said) (gated A.accepts H.state self.old)
+        ensures calls { (heard : List H.Heard) → Begins heard (H.heard self.new.inner.handler)
+            → GateCalled H.failures (H.law heard) (gated A.accepts H.state self.old)
             self.old.inner (event_meant event) self.new.inner result }
         ensures nobody { OnErr result (IsTrue (is_logged_in self.new.stage)
             → IsTrue (is_logged_in self.old.stage)) }
@@ -269,15 +269,15 @@ impl<A: Accounts, H: Session> Session for Gate<A, H> {
     /// (`calls`). To any other event no reply follows.
     fn further(&mut self, alloc: Global) -> Result<Option<Reply>, ControlChanError>
         ensures heard { Begins (H.heard self.new.inner.handler) (H.heard self.old.inner.handler) }
-        ensures answers { (said : List H.Said) → Begins said (H.heard self.new.inner.handler)
-            → FurtherAnswer (gated_law (H.law said)) (gated A.accepts H.state self.old)
+        ensures answers { (heard : List H.Heard) → Begins heard (H.heard self.new.inner.handler)
+            → FurtherAnswer (gated_law (H.law heard)) (gated A.accepts H.state self.old)
             (gated A.accepts H.state self.new) (failures_of H.failures self.old.inner)
             (failures_of H.failures self.new.inner) (λ state. H.left state.inner) result }
         ensures kept { (self.new.accounts ≡ self.old.accounts)
             × (self.new.limit ≡ self.old.limit) × (self.new.stage ≡ self.old.stage)
             × (self.new.quit ≡ self.old.quit) }
-        ensures calls { (said : List H.Said) → Begins said (H.heard self.new.inner.handler)
-            → GateAsked H.failures (H.law said) (gated A.accepts H.state self.old)
+        ensures calls { (heard : List H.Heard) → Begins heard (H.heard self.new.inner.handler)
+            → GateAsked H.failures (H.law heard) (gated A.accepts H.state self.old)
             self.old.inner self.new.inner result }
     {
         if !self.passed {

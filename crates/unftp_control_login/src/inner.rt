@@ -47,8 +47,8 @@ impl<H: Session> Inner<H> {
     /// Has the handler receive an event, and returns its first reply.
     pub(crate) fn pass_on(&mut self, alloc: Global, event: Event) -> Result<Reply, ControlChanError>
         ensures heard { Begins (H.heard self.new.handler) (H.heard self.old.handler) }
-        ensures decided { (said : List H.Said) → Begins said (H.heard self.new.handler)
-            → Decided H.state H.failures (H.law said) self.old self.new
+        ensures decided { (heard : List H.Heard) → Begins heard (H.heard self.new.handler)
+            → Decided H.state H.failures (H.law heard) self.old self.new
             (PassesOn (event_meant event)) result }
     {
         self.calls.push(&Note::Passes(&event));
@@ -58,11 +58,11 @@ impl<H: Session> Inner<H> {
     /// Asks the handler for the next of its replies to the event.
     pub(crate) fn further(&mut self, alloc: Global) -> Result<Option<Reply>, ControlChanError>
         ensures heard { Begins (H.heard self.new.handler) (H.heard self.old.handler) }
-        ensures answers { (said : List H.Said) → Begins said (H.heard self.new.handler)
-            → FurtherAnswer (H.law said) (H.state self.old.handler) (H.state self.new.handler)
+        ensures answers { (heard : List H.Heard) → Begins heard (H.heard self.new.handler)
+            → FurtherAnswer (H.law heard) (H.state self.old.handler) (H.state self.new.handler)
             (H.failures self.old.handler) (H.failures self.new.handler) H.left result }
-        ensures calls { (said : List H.Said) → Begins said (H.heard self.new.handler)
-            → CallsMade (H.law said) ((AsksFurther, H.state self.old.handler) ∷ [])
+        ensures calls { (heard : List H.Heard) → Begins heard (H.heard self.new.handler)
+            → CallsMade (H.law heard) ((AsksFurther, H.state self.old.handler) ∷ [])
             (calls_of H.failures self.old) (calls_of H.failures self.new) result }
     {
         self.calls.push(&Note::AsksFurther);
@@ -72,12 +72,12 @@ impl<H: Session> Inner<H> {
     /// Has the handler receive an event, and drops all its replies to it.
     pub(crate) fn tell(&mut self, alloc: Global, event: Event) -> Result<(), ControlChanError>
         ensures heard { Begins (H.heard self.new.handler) (H.heard self.old.handler) }
-        ensures next { OnOk result ((said : List H.Said)
-            → Begins said (H.heard self.new.handler) → H.state self.new.handler
-            ≡ after (H.law said) (H.state self.old.handler) (event_meant event)) }
-        ensures calls { (said : List H.Said) → Begins said (H.heard self.new.handler)
-            → CallsMade (H.law said)
-            (tells (H.law said) (H.state self.old.handler) (event_meant event))
+        ensures next { OnOk result ((heard : List H.Heard)
+            → Begins heard (H.heard self.new.handler) → H.state self.new.handler
+            ≡ after (H.law heard) (H.state self.old.handler) (event_meant event)) }
+        ensures calls { (heard : List H.Heard) → Begins heard (H.heard self.new.handler)
+            → CallsMade (H.law heard)
+            (tells (H.law heard) (H.state self.old.handler) (event_meant event))
             (calls_of H.failures self.old) (calls_of H.failures self.new) result }
     {
         drop(self.pass_on(alloc, event)?);
@@ -95,7 +95,7 @@ impl<H: Session> Inner<H> {
         text: &str,
     ) -> Result<Reply, ControlChanError>
         ensures handler { self.new.handler ≡ self.old.handler }
-        ensures decided { (said : List H.Said) → Decided H.state H.failures (H.law said) self.old
+        ensures decided { (heard : List H.Heard) → Decided H.state H.failures (H.law heard) self.old
             self.new (Answers (CodeAndMsg (number_of code) text.now)) result }
     {
         self.calls.push(&Note::Makes { code, text });
@@ -108,7 +108,7 @@ impl<H: Session> Inner<H> {
 
     /// Whether the handler is done.
     pub(crate) fn done(&self) -> bool
-        ensures { (said : List H.Said) → result ≡ (H.law said).done (H.state self.now.handler) }
+        ensures { (heard : List H.Heard) → result ≡ (H.law heard).done (H.state self.now.handler) }
     {
         self.handler.done()
     }

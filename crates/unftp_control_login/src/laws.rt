@@ -15,35 +15,35 @@ use unftp_control_serve::Session;
 /// Whatever handler the gate has, and whatever came before: an event that needs a login comes
 /// after one, or its only reply is 530 and the handler doesn't receive it (RFC 959, section 5.4).
 pub fn gated_by_login<H: Session>()
-    ensures { (said : List H.Said)
+    ensures { (heard : List H.Heard)
         (accepts : Accounts) (failures : Option ℕ) (inner : H.State) (before : List FtpEvent)
         (event : FtpEvent) → IsTrue (needs_login event) → IsLoggedIn accepts before
-        ⊎ IsTurnedAway (H.law said) (guarded failures accepts inner) before event }
+        ⊎ IsTurnedAway (H.law heard) (guarded failures accepts inner) before event }
 {}
 
 /// Each event but USER and PASS reaches the handler after a login, and one that needs no login
 /// always does; and where a password is accepted, the handler receives USER with the name.
 pub fn members_reach_the_handler<H: Session>()
-    ensures member { (said : List H.Said)
+    ensures member { (heard : List H.Heard)
         (accepts : Accounts) (failures : Option ℕ) (inner : H.State) (before : List FtpEvent)
         (event : FtpEvent) → is_login event ≡ false → IsLoggedIn accepts before
-        → ReachesHandler (H.law said) (guarded failures accepts inner) before event }
-    ensures anyone { (said : List H.Said)
+        → ReachesHandler (H.law heard) (guarded failures accepts inner) before event }
+    ensures anyone { (heard : List H.Heard)
         (accepts : Accounts) (failures : Option ℕ) (inner : H.State) (before : List FtpEvent)
         (event : FtpEvent) → is_login event ≡ false → needs_login event ≡ false
-        → ReachesHandler (H.law said) (guarded failures accepts inner) before event }
-    ensures name { (said : List H.Said)
+        → ReachesHandler (H.law heard) (guarded failures accepts inner) before event }
+    ensures name { (heard : List H.Heard)
         (accepts : Accounts) (failures : Option ℕ) (inner : H.State) (before : List FtpEvent)
         (name password : Bytes) → GaveName name before → accepts name password ≡ true
-        → LearnsName (H.law said) (guarded failures accepts inner) before name password }
+        → LearnsName (H.law heard) (guarded failures accepts inner) before name password }
 {}
 
 /// Whatever handler the gate has, and whatever a client sends: to an event that needs a login, a
 /// reply that reports no failure comes only after a login. With a limit on failed logins, it stays
 /// so.
 pub fn members_alone_are_served<H: Session>()
-    ensures { (said : List H.Said) (accepts : Accounts) (failures : Option ℕ) (inner : H.State)
-        → ServesMembersAlone accepts (gated_law (H.law said)) (guarded failures accepts inner) }
+    ensures { (heard : List H.Heard) (accepts : Accounts) (failures : Option ℕ) (inner : H.State)
+        → ServesMembersAlone accepts (gated_law (H.law heard)) (guarded failures accepts inner) }
 {}
 
 /// In bytes, of a handler that gives each event preliminary replies and then a final one, all sent
@@ -51,18 +51,18 @@ pub fn members_alone_are_served<H: Session>()
 /// among those to a command that needs a login, comes only after a USER and a PASS that the
 /// accounts accept.
 pub fn members_alone_are_served_in_bytes<H: Session>()
-    ensures { (said : List H.Said) (inner : H.State) → SendsPlainExchanges (H.law said) inner
+    ensures { (heard : List H.Heard) (inner : H.State) → SendsPlainExchanges (H.law heard) inner
         → (limit : Option ℕ) (accepts : Accounts) (failures : Option ℕ)
         (input : Bytes) → MembersAlone limit accepts input (text_for limit
-        (gated_law (H.law said)) (guarded failures accepts inner) input) }
+        (gated_law (H.law heard)) (guarded failures accepts inner) input) }
 {}
 
 /// The output reveals about a password only whether it was accepted: two inputs whose events differ
 /// in passwords that the accounts answer alike, for the name that was given, have one output.
 pub fn passwords_stay_hidden<H: Session>()
-    ensures { (said : List H.Said) (limit : Option ℕ) (accepts : Accounts)
+    ensures { (heard : List H.Heard) (limit : Option ℕ) (accepts : Accounts)
         (failures : Option ℕ) (inner : H.State) → PasswordsStayHidden limit accepts
-        (gated_law (H.law said)) (guarded failures accepts inner) }
+        (gated_law (H.law heard)) (guarded failures accepts inner) }
 {}
 
 /// Nor does an error reveal more, where the inputs differ only in lines that give passwords:
@@ -71,12 +71,12 @@ pub fn passwords_stay_hidden<H: Session>()
 /// receives the same, and memory is asked for the same replies. It fails where one of these calls
 /// fails, and only there (`calls` of its `first` and `further`).
 pub fn errors_hide_passwords<H: Session>()
-    ensures errors { (said : List H.Said) (limit : Option ℕ) (accepts : Accounts)
+    ensures errors { (heard : List H.Heard) (limit : Option ℕ) (accepts : Accounts)
         (failures : Option ℕ) (inner : H.State) → ErrorsHidePasswords limit accepts
-        (gated_law (H.law said)) (guarded failures accepts inner) }
-    ensures calls { (said : List H.Said) (limit : Option ℕ) (accepts : Accounts)
+        (gated_law (H.law heard)) (guarded failures accepts inner) }
+    ensures calls { (heard : List H.Heard) (limit : Option ℕ) (accepts : Accounts)
         (failures : Option ℕ) (inner : H.State) → CallsHidePasswords limit accepts
-        (gated_law (H.law said)) (guarded failures accepts inner) (gate_calls (H.law said)) }
+        (gated_law (H.law heard)) (guarded failures accepts inner) (gate_calls (H.law heard)) }
 {}
 
 /// What is written and called depends on the accounts only by their answers to what the session may
@@ -84,54 +84,54 @@ pub fn errors_hide_passwords<H: Session>()
 /// these alike give one output. So no output reveals what they would answer of another name or of
 /// another password.
 pub fn accounts_stay_hidden<H: Session>()
-    ensures { (said : List H.Said)
+    ensures { (heard : List H.Heard)
         (limit : Option ℕ) (accepts other : Accounts) (failures : Option ℕ) (inner : H.State)
-        → AccountsStayHidden limit accepts other (gate_calls (H.law said)) (gated_law (H.law said))
+        → AccountsStayHidden limit accepts other (gate_calls (H.law heard)) (gated_law (H.law heard))
         (guarded failures accepts inner) (guarded failures other inner) }
 {}
 
 /// In bytes: two passwords that the accounts answer alike for the name that was given, in lines of
 /// PASS within the limit, give one output. So a wrong password gives what another user's gives.
 pub fn refused_passwords_look_alike<H: Session>()
-    ensures { (said : List H.Said) (limit : Option ℕ) (accepts : Accounts)
+    ensures { (heard : List H.Heard) (limit : Option ℕ) (accepts : Accounts)
         (failures : Option ℕ) (inner : H.State) → RefusedPasswordsLookAlike limit accepts
-        (gated_law (H.law said)) (guarded failures accepts inner) }
+        (gated_law (H.law heard)) (guarded failures accepts inner) }
 {}
 
 /// A login that is refused gives the same output whether its name is known or not.
 pub fn refused_logins_look_alike<H: Session>()
-    ensures { (said : List H.Said) (limit : Option ℕ) (accepts : Accounts)
+    ensures { (heard : List H.Heard) (limit : Option ℕ) (accepts : Accounts)
         (failures : Option ℕ) (inner : H.State) → RefusedLoginsLookAlike limit accepts
-        (gated_law (H.law said)) (guarded failures accepts inner) }
+        (gated_law (H.law heard)) (guarded failures accepts inner) }
 {}
 
 /// In a session no more logins fail than the limit allows, and the last that may fail is answered
 /// 421, which is the last reply of the session.
 pub fn failed_logins_are_limited<H: Session>()
-    ensures count { (said : List H.Said) (s : Gated H.State) (left : ℕ) (events : List FtpEvent)
-        → s.left ≡ Some left → 1 ≤ left → failed_in_run (gated_law (H.law said)) s events ≤ left }
-    ensures last { (said : List H.Said) (s : Gated H.State) (left : ℕ) (events : List FtpEvent)
-        → s.left ≡ Some left → 1 ≤ left → failed_in_run (gated_law (H.law said)) s events ≡ left
-        → EndsWith too_many (gated_law (H.law said)) s events }
+    ensures count { (heard : List H.Heard) (s : Gated H.State) (left : ℕ) (events : List FtpEvent)
+        → s.left ≡ Some left → 1 ≤ left → failed_in_run (gated_law (H.law heard)) s events ≤ left }
+    ensures last { (heard : List H.Heard) (s : Gated H.State) (left : ℕ) (events : List FtpEvent)
+        → s.left ≡ Some left → 1 ≤ left → failed_in_run (gated_law (H.law heard)) s events ≡ left
+        → EndsWith too_many (gated_law (H.law heard)) s events }
 {}
 
 /// While more than one login may fail, and at each event that is no failed login, a limit changes
 /// neither the replies nor whether the session ends.
 pub fn few_failures_change_nothing<H: Session>()
-    ensures says { (said : List H.Said) (s : Gated H.State) (left : ℕ) (event : FtpEvent)
+    ensures says { (heard : List H.Heard) (s : Gated H.State) (left : ℕ) (event : FtpEvent)
         → s.left ≡ Some left → (1 < left) ⊎ (is_failed_login event
-        (replies_to (gated_law (H.law said)) (unlimited s) event) ≡ false)
-        → replies_to (gated_law (H.law said)) s event
-        ≡ replies_to (gated_law (H.law said)) (unlimited s) event }
-    ensures done { (said : List H.Said) (s : Gated H.State) (left : ℕ) (event : FtpEvent)
+        (replies_to (gated_law (H.law heard)) (unlimited s) event) ≡ false)
+        → replies_to (gated_law (H.law heard)) s event
+        ≡ replies_to (gated_law (H.law heard)) (unlimited s) event }
+    ensures done { (heard : List H.Heard) (s : Gated H.State) (left : ℕ) (event : FtpEvent)
         → s.left ≡ Some left → 1 ≤ left → (1 < left) ⊎ (is_failed_login event
-        (replies_to (gated_law (H.law said)) (unlimited s) event) ≡ false)
-        → (gated_law (H.law said)).done (after (gated_law (H.law said)) s event)
-        ≡ (gated_law (H.law said)).done (after (gated_law (H.law said)) (unlimited s) event) }
+        (replies_to (gated_law (H.law heard)) (unlimited s) event) ≡ false)
+        → (gated_law (H.law heard)).done (after (gated_law (H.law heard)) s event)
+        ≡ (gated_law (H.law heard)).done (after (gated_law (H.law heard)) (unlimited s) event) }
 {}
 
 /// The session ends with the replies to QUIT (RFC 959, section 4.1.1).
 pub fn quit_ends_the_session<H: Session>()
-    ensures { (said : List H.Said) (s : Gated H.State)
-        → (gated_law (H.law said)).done (after (gated_law (H.law said)) s (Command Quit)) ≡ true }
+    ensures { (heard : List H.Heard) (s : Gated H.State)
+        → (gated_law (H.law heard)).done (after (gated_law (H.law heard)) s (Command Quit)) ≡ true }
 {}

@@ -57,8 +57,8 @@ fn answer_event<H: Session, K: Sink>(
     output: &mut K,
 ) -> Result<(), ServeError>
     ensures heard { Begins (H.heard handler.new) (H.heard handler.old) }
-    ensures outcome { (said : List H.Said) → Begins said (H.heard handler.new)
-        → EventOutcome (H.law said)
+    ensures outcome { (heard : List H.Heard) → Begins heard (H.heard handler.new)
+        → EventOutcome (H.law heard)
         (snapshot_with H.state H.failures K.state handler.old output.old)
         (event_meant event)
         (snapshot_with H.state H.failures K.state handler.new output.new)
@@ -83,8 +83,8 @@ fn answer_lines<H: Session, K: Sink>(
     output: &mut K,
 ) -> Result<bool, ServeError>
     ensures heard { Begins (H.heard handler.new) (H.heard handler.old) }
-    ensures outcome { (said : List H.Said) → Begins said (H.heard handler.new)
-        → RunOutcome decoder.old.limit (H.law said)
+    ensures outcome { (heard : List H.Heard) → Begins heard (H.heard handler.new)
+        → RunOutcome decoder.old.limit (H.law heard)
         (snapshot_with H.state H.failures K.state handler.old output.old) decoder.old.bytes
         (snapshot_with H.state H.failures K.state handler.new output.new)
         decoder.new.bytes result }
@@ -241,16 +241,16 @@ impl Engine {
     ) -> Result<(), ServeError>
         // What was answered, written and flushed at each answer of an engine that runs.
         ensures heard { Begins (H.heard handler.new) (H.heard handler.old) }
-        ensures outcome { IsRunning self.old → (said : List H.Said)
-            → Begins said (H.heard handler.new) → PieceOutcome self.old.limit (H.law said)
+        ensures outcome { IsRunning self.old → (heard : List H.Heard)
+            → Begins heard (H.heard handler.new) → PieceOutcome self.old.limit (H.law heard)
             (snapshot_with H.state H.failures K.state handler.old output.old)
             (bytes_with self.old piece.now) (LacksPieceRoom self.old piece.now)
             (snapshot_with H.state H.failures K.state handler.new output.new) result }
         ensures cuts { OnWrite result K.cuts }
         // What such an engine is then; a limit bounds what the buffer has held.
         ensures fed { IsRunning self.old → MatchResult result
-            (λ _. (said : List H.Said) → Begins said (H.heard handler.new)
-            → self.new ≡ fed (H.law said) (H.state handler.old) self.old piece.now)
+            (λ _. (heard : List H.Heard) → Begins heard (H.heard handler.new)
+            → self.new ≡ fed (H.law heard) (H.state handler.old) self.old piece.now)
             (λ _. FailedAfter self.old piece.now self.new) }
         ensures bound { IfSome self.old.limit (λ limit.
             self.new.held ≤ max self.old.held (limit + length piece.now)) }
@@ -281,15 +281,15 @@ impl Engine {
     ) -> Result<(), ServeError>
         requires { IsRunning self.old }
         ensures heard { Begins (H.heard handler.new) (H.heard handler.old) }
-        ensures outcome { (said : List H.Said)
-            → Begins said (H.heard handler.new) → PieceOutcome self.old.limit (H.law said)
+        ensures outcome { (heard : List H.Heard)
+            → Begins heard (H.heard handler.new) → PieceOutcome self.old.limit (H.law heard)
             (snapshot_with H.state H.failures K.state handler.old output.old)
             (bytes_with self.old piece.now) (LacksPieceRoom self.old piece.now)
             (snapshot_with H.state H.failures K.state handler.new output.new) result }
         ensures cuts { OnWrite result K.cuts }
         ensures fed { MatchResult result
-            (λ _. (said : List H.Said) → Begins said (H.heard handler.new)
-            → self.new ≡ fed (H.law said) (H.state handler.old) self.old piece.now)
+            (λ _. (heard : List H.Heard) → Begins heard (H.heard handler.new)
+            → self.new ≡ fed (H.law heard) (H.state handler.old) self.old piece.now)
             (λ _. FailedAfter self.old piece.now self.new) }
         ensures bound { IfSome self.old.limit (λ limit.
             self.new.held ≤ max self.old.held (limit + length piece.now)) }

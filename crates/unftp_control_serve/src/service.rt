@@ -161,9 +161,9 @@ fn served_by(engine: &Engine) -> Served
 /// What follows of `Serves` where the bytes of the whole input are known, read or not, as those of
 /// a slice are.
 pub fn known_input_is_served<H: Session>()
-    ensures { (said : List H.Said) (limit : Option ℕ) (before after : Snapshot H.State)
+    ensures { (heard : List H.Heard) (limit : Option ℕ) (before after : Snapshot H.State)
         (input input_after : InputState) (served : Report)
-        → Serves limit (H.law said) before after input input_after served
+        → Serves limit (H.law heard) before after input input_after served
         → IfSome input.remaining
-        (ServesKnown limit (H.law said) before after input_after.remaining served) }
+        (ServesKnown limit (H.law heard) before after input_after.remaining served) }
 {}

@@ -22,13 +22,13 @@ pub trait Session {
     // with each reply that follows, and how often it has failed.
     ghost State: { Type 0 };
 
-    ghost Said: { Type 0 };
+    ghost Heard: { Type 0 };
 
     ghost state: { Self → State };
 
-    ghost heard: { Self → List Said };
+    ghost heard: { Self → List Heard };
 
-    ghost law: { List Said → SessionLaw State };
+    ghost law: { List Heard → SessionLaw State };
 
     ghost left: { State → ℕ };
 
@@ -38,8 +38,8 @@ pub trait Session {
     /// allows: it ends the connection, and the state is unspecified after it.
     fn first(&mut self, alloc: Global, event: Event) -> Result<Reply, ControlChanError>
         ensures heard { Begins (heard self.new) (heard self.old) }
-        ensures answers { (said : List Said) → Begins said (heard self.new)
-            → FirstAnswer (law said) (state self.old) (state self.new) (failures self.old)
+        ensures answers { (all : List Heard) → Begins all (heard self.new)
+            → FirstAnswer (law all) (state self.old) (state self.new) (failures self.old)
             (failures self.new) (event_meant event) result };
 
     /// Returns the next reply to the event, if there is one. It is called after each reply, once
@@ -47,27 +47,27 @@ pub trait Session {
     /// be one that the law's `may_break` allows, and ends the connection too.
     fn further(&mut self, alloc: Global) -> Result<Option<Reply>, ControlChanError>
         ensures heard { Begins (heard self.new) (heard self.old) }
-        ensures answers { (said : List Said) → Begins said (heard self.new)
-            → FurtherAnswer (law said) (state self.old) (state self.new) (failures self.old)
+        ensures answers { (all : List Heard) → Begins all (heard self.new)
+            → FurtherAnswer (law all) (state self.old) (state self.new) (failures self.old)
             (failures self.new) left result };
 
     /// Whether the session ends here: it is asked after each event, once all its replies are sent,
     /// and never before the first.
     fn done(&self) -> bool
-        ensures { (said : List Said) → result ≡ (law said).done (state self.now) };
+        ensures { (all : List Heard) → result ≡ (law all).done (state self.now) };
 }
 
 /// One reply to each event.
 impl<H: Handler> Session for H {
     ghost State = { H.State };
 
-    ghost Said = { Unit {0} };
+    ghost Heard = { Unit {0} };
 
     ghost state = { H.state };
 
     ghost heard = { λ handler. [] };
 
-    ghost law = { λ said. as_session H.law };
+    ghost law = { λ heard. as_session H.law };
 
     ghost left = { λ state. 0 };
 

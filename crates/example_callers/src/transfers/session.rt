@@ -163,7 +163,7 @@ impl<D: DataConnection> Session for Transfers<D> {
 
     ghost State = { TransferState };
 
-    ghost Said = { DataAnswer };
+    ghost Heard = { DataAnswer };
 
     ghost state = { state_of D.answers };
 

@@ -36,26 +36,26 @@ pub fn lines_arrive()
 /// where its run ends, `one_run` says (RFC 959, sections 4.2, 5.3 and 5.4).
 pub fn conversation<H: Session>()
     // The replies that the client has taken so far are the first ones,
-    ensures so_far { (said : List H.Said) (limit : Option ℕ) (s : H.State) (input : Bytes)
+    ensures so_far { (heard : List H.Heard) (limit : Option ℕ) (s : H.State) (input : Bytes)
         (steps : List (TakingStep (ℕ × List Bytes))) (pending later : Bytes)
-        → let all = replies (H.law said) s (run_for limit (H.law said) s input) in
+        → let all = replies (H.law heard) s (run_for limit (H.law heard) s input) in
         AllByRecursion IsReadable all → AreTakingSteps TakesReply [] steps pending
-        → all_pushed steps ++ later ≡ text_for limit (H.law said) s input
+        → all_pushed steps ++ later ≡ text_for limit (H.law heard) s input
         → (more : List (ℕ × List Bytes)) × Show (all_taken steps ++ more) all }
     // and once all bytes came and no more can be taken, they are all, and no byte is pending.
-    ensures all { (said : List H.Said) (limit : Option ℕ) (s : H.State) (input : Bytes)
+    ensures all { (heard : List H.Heard) (limit : Option ℕ) (s : H.State) (input : Bytes)
         (steps : List (TakingStep (ℕ × List Bytes))) (pending : Bytes)
-        → let all = replies (H.law said) s (run_for limit (H.law said) s input) in
+        → let all = replies (H.law heard) s (run_for limit (H.law heard) s input) in
         AllByRecursion IsReadable all → AreTakingSteps TakesReply [] steps pending
-        → all_pushed steps ≡ text_for limit (H.law said) s input → ¬ HasFront pending
+        → all_pushed steps ≡ text_for limit (H.law heard) s input → ¬ HasFront pending
         → Show (all_taken steps) all × (pending ≡ []) }
     // Then each line has its own replies.
-    ensures turns { (said : List H.Said) (limit : Option ℕ) (s : H.State) (input : Bytes)
+    ensures turns { (heard : List H.Heard) (limit : Option ℕ) (s : H.State) (input : Bytes)
         (read : List (ℕ × List Bytes))
-        → let run = run_for limit (H.law said) s input in
-        AllByRecursion IsExchange (replies_by_event (H.law said) s run)
-        → Show read (replies (H.law said) s run)
-        → ShowTurns read (replies_by_event (H.law said) s run)
+        → let run = run_for limit (H.law heard) s input in
+        AllByRecursion IsExchange (replies_by_event (H.law heard) s run)
+        → Show read (replies (H.law heard) s run)
+        → ShowTurns read (replies_by_event (H.law heard) s run)
         × (length (cut_reads read) ≡ length run) }
 {}
 
@@ -66,18 +66,18 @@ pub fn conversation<H: Session>()
 /// came and no more can be taken, they are all, and no byte is pending (RFC 959, sections 4.2 and
 /// 5.4). It joins `conversation` with the law `replies_are_exchanges` of clients.
 pub fn any_order<H: Session>()
-    ensures so_far { (said : List H.Said) (state : H.State) (limit client_limit : Option ℕ)
+    ensures so_far { (heard : List H.Heard) (state : H.State) (limit client_limit : Option ℕ)
         (greeting : FtpReply) (acts : List Act) (client : RustClient)
         → let server : Server H.State =
-        record { law = H.law said; state = state; limit = limit; greeting = greeting } in
+        record { law = H.law heard; state = state; limit = limit; greeting = greeting } in
         IsConversation server client_limit acts client
         → IsUnderstood (turns_to server (sent_by_client acts))
         → AreFirst (taken_by_client acts)
         (exchanges Greeting (turns_to server (sent_by_client acts))) }
-    ensures all { (said : List H.Said) (state : H.State) (limit client_limit : Option ℕ)
+    ensures all { (heard : List H.Heard) (state : H.State) (limit client_limit : Option ℕ)
         (greeting : FtpReply) (acts : List Act) (client : RustClient)
         → let server : Server H.State =
-        record { law = H.law said; state = state; limit = limit; greeting = greeting } in
+        record { law = H.law heard; state = state; limit = limit; greeting = greeting } in
         IsConversation server client_limit acts client
         → IsUnderstood (turns_to server (sent_by_client acts))
         → came_to_client acts ≡ written_by server (sent_by_client acts)
@@ -101,18 +101,18 @@ pub fn canonical_lines_change_nothing<H: Session>()
         → AllByRecursion (λ line. (length line ≤ limit) × (length (rewrite line) ≤ limit))
         (lines_of input)
         → events (Some limit) (rewritten rewrite input) ≡ events (Some limit) input }
-    ensures written { (said : List H.Said) (rewrite : Bytes → Bytes) (s : H.State)
+    ensures written { (heard : List H.Heard) (rewrite : Bytes → Bytes) (s : H.State)
         (input : Bytes)
         → KeepsMeaning rewrite
-        → text_for None (H.law said) s (rewritten rewrite input)
-        ≡ text_for None (H.law said) s input }
-    ensures written_within { (said : List H.Said) (rewrite : Bytes → Bytes) (limit : ℕ)
+        → text_for None (H.law heard) s (rewritten rewrite input)
+        ≡ text_for None (H.law heard) s input }
+    ensures written_within { (heard : List H.Heard) (rewrite : Bytes → Bytes) (limit : ℕ)
         (s : H.State) (input : Bytes)
         → KeepsMeaning rewrite
         → AllByRecursion (λ line. (length line ≤ limit) × (length (rewrite line) ≤ limit))
         (lines_of input)
-        → text_for (Some limit) (H.law said) s (rewritten rewrite input)
-        ≡ text_for (Some limit) (H.law said) s input }
+        → text_for (Some limit) (H.law heard) s (rewritten rewrite input)
+        ≡ text_for (Some limit) (H.law heard) s input }
     ensures incomplete { (rewrite : Bytes → Bytes) (input : Bytes) → KeepsMeaning rewrite
         → incomplete_line (rewritten rewrite input) ≡ incomplete_line input }
 {}

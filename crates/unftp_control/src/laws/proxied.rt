@@ -21,11 +21,11 @@ use unftp_control_serve::Session;
 /// to the greeting and to each of its own lines, in order (RFC 959, sections 4.2 and 5.4). What the
 /// proxy took of the server's bytes may be a beginning of them, so it holds at each time.
 pub fn conversation_through_a_proxy<H: Session>()
-    ensures so_far { (said : List H.Said) (state : H.State) (greeting : FtpReply)
+    ensures so_far { (heard : List H.Heard) (state : H.State) (greeting : FtpReply)
         (limits : RustLimits) (traffic : Traffic) (later : ProxyState)
         (steps : List (TakingStep (ℕ × List Bytes))) (pending more : Bytes)
         → let server : Server H.State =
-        record { law = H.law said; state = state; limit = None; greeting = greeting } in
+        record { law = H.law heard; state = state; limit = None; greeting = greeting } in
         IsTraffic (new_proxy limits) traffic later → ChangesNothing traffic
         → Begins (written_by server traffic.to_server) traffic.from_server
         → IsUnderstood (turns_to server (concat (client_lines traffic.lines)))
@@ -34,11 +34,11 @@ pub fn conversation_through_a_proxy<H: Session>()
         → (unread : List (ℕ × List Bytes)) × Show (all_taken steps ++ unread)
         (all_replies (turns_to server (concat (client_lines traffic.lines)))) }
     // Once all came, they are all, each line has its own, and no byte is pending.
-    ensures all { (said : List H.Said) (state : H.State) (greeting : FtpReply)
+    ensures all { (heard : List H.Heard) (state : H.State) (greeting : FtpReply)
         (limits : RustLimits) (traffic : Traffic) (later : ProxyState)
         (steps : List (TakingStep (ℕ × List Bytes))) (pending : Bytes)
         → let server : Server H.State =
-        record { law = H.law said; state = state; limit = None; greeting = greeting } in
+        record { law = H.law heard; state = state; limit = None; greeting = greeting } in
         IsTraffic (new_proxy limits) traffic later → ChangesNothing traffic
         → traffic.from_server ≡ written_by server traffic.to_server → later.server.bytes ≡ []
         → IsUnderstood (turns_to server (concat (client_lines traffic.lines)))

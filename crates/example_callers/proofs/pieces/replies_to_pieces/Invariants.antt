@@ -7,9 +7,9 @@ use Rattle.unftp_control.proofs.SoFarLemmas.{AnsweredSoFar}
 use Rattle.example_callers.proofs.pieces.replies_to_pieces.Given as goal
 
 abbrev pub invariant-loop-piece : goal.invariant-loop-piece
-invariant-loop-piece g l = (said : List g.H.Session.Said)
-    → Begins said (g.H.Session.heard l.handler)
-    → AnsweredSoFar None (g.H.Session.law said)
+invariant-loop-piece g l = (heard : List g.H.Session.Heard)
+    → Begins heard (g.H.Session.heard l.handler)
+    → AnsweredSoFar None (g.H.Session.law heard)
     (snapshot_at_start (g.H.Session.state l.fn.handler) (g.H.Session.failures l.fn.handler)
     (Some []))
     (snapshot_with g.H.Session.state g.H.Session.failures appended_state_of l.handler l.replies)

@@ -7,8 +7,8 @@ use Rattle.unftp_control_serve.proofs.engine.answer_lines.Given as goal
 abbrev pub invariant-loop-event : goal.invariant-loop-event
 invariant-loop-event g l = record {
   heard : Begins (g.H.Session.heard l.handler) (g.H.Session.heard l.fn.handler);
-  halfway : (said : List g.H.Session.Said) → Begins said (g.H.Session.heard l.handler)
-      → Halfway (g.H.Session.law said) l.fn.decoder.limit
+  halfway : (heard : List g.H.Session.Heard) → Begins heard (g.H.Session.heard l.handler)
+      → Halfway (g.H.Session.law heard) l.fn.decoder.limit
       (snapshot_with g.H.Session.state g.H.Session.failures g.K.Sink.state l.fn.handler l.fn.output)
       (snapshot_with g.H.Session.state g.H.Session.failures g.K.Sink.state l.handler l.output)
       l.fn.decoder.bytes l.decoder.bytes;
