@@ -54,11 +54,11 @@ may_go_as_it_is line = allows_word (row_of (upper (verb_of line)) verbs)
 
 -- A line that is a command is forwarded where its verb is allowed. One that is none is sent as it
 -- is, where it may go so.
-abbrev pub decided : Bytes → Outcome → Decision
-decided line (Ok command) = if allows (said command).verb then Forward
+abbrev pub decided_by_verb : Bytes → Outcome → Decision
+decided_by_verb line (Ok command) = if allows (said command).verb then Forward
     else AnswerWith (CodeAndMsg 502 (codes "Not allowed here"))
-decided line (Err refusal) = if may_go_as_it_is line then AsItIs
+decided_by_verb line (Err refusal) = if may_go_as_it_is line then AsItIs
     else AnswerWith (CodeAndMsg 500 (codes "Not understood"))
 
 abbrev pub only_reads : FilterLaw ⊤
-only_reads = record { says = λ s line. decided line (outcome line); next = λ s line. s }
+only_reads = record { says = λ s line. decided_by_verb line (outcome line); next = λ s line. s }

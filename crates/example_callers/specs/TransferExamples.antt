@@ -29,8 +29,8 @@ abbrev pub later : List DataAnswer → List DataAnswer
 later answers = Opened ∷ Closed ∷ answers
 
 -- all of the file was sent, or these bytes were received
-abbrev pub all_sent : List DataAnswer
-all_sent = Opened ∷ Took abc 1 ∷ Took (codes "bc") 2 ∷ Closed ∷ []
+abbrev pub all_data_sent : List DataAnswer
+all_data_sent = Opened ∷ Took abc 1 ∷ Took (codes "bc") 2 ∷ Closed ∷ []
 
 abbrev pub all_received : List DataAnswer
 all_received = Opened ∷ Gave (codes "x") ∷ Gave (codes "yz") ∷ Gave [] ∷ Closed ∷ []

@@ -94,8 +94,8 @@ abbrev pub transfer_failures : {D : Type 0} → Transfers D → ℕ
 transfer_failures transfers = transfers.failures
 
 -- before the first event
-abbrev pub new_transfer : List DataAnswer → Bytes → TransferState
-new_transfer answers file = record {
+abbrev pub new_transfers : List DataAnswer → Bytes → TransferState
+new_transfers answers file = record {
   pending = None;
   offset = 0;
   file = file;

@@ -3,7 +3,7 @@ ghost use Rattle.std.specs.Prelude.{◌≡◌, ⊤, IfOk};
 ghost use Rattle.unftp_control_defs.specs.Outcome.{outcome};
 ghost use Rattle.unftp_control_codecs.specs.Memory.{PartsTo};
 ghost use Rattle.unftp_control_proxy.specs.Filtering.{decision_of};
-ghost use Rattle.example_callers.specs.Allowed.{allows, decided, may_go_as_it_is, only_reads};
+ghost use Rattle.example_callers.specs.Allowed.{allows, decided_by_verb, may_go_as_it_is, only_reads};
 
 use std::alloc::{AllocError, Global};
 use unftp_control_codecs::line_parser::split;
@@ -50,7 +50,8 @@ fn decide(
     parts: &Result<Parts<'_>, ParseErrorKind>,
 ) -> Result<Verdict, AllocError>
     requires { PartsTo (outcome line.now) parts.now }
-    ensures { IfOk result (λ verdict. decision_of verdict ≡ decided line.now (outcome line.now)) }
+    ensures { IfOk result
+        (λ verdict. decision_of verdict ≡ decided_by_verb line.now (outcome line.now)) }
 {
     match parts {
         Ok(parts) if allows(parts.verb) => Ok(Verdict::Forward),

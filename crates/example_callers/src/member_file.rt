@@ -2,7 +2,7 @@
 ghost use Rattle.std.specs.Prelude.{ℕ, List, IfErr, IfOk, OnOk, Some};
 ghost use Rattle.example_callers.specs.Sessions.{snapshot};
 ghost use Rattle.example_callers.specs.DataAnswers.{DataAnswer};
-ghost use Rattle.example_callers.specs.Transfers.{TransferState, new_transfer, transfers_law};
+ghost use Rattle.example_callers.specs.Transfers.{TransferState, new_transfers, transfers_law};
 ghost use Rattle.unftp_control.specs.Bytes.{Bytes};
 ghost use Rattle.unftp_control.specs.Gate.{Gated, closed, gated_law, limited_to};
 ghost use Rattle.unftp_control.specs.Input.{HasRead, input_state_of};
@@ -32,7 +32,7 @@ pub fn serve_file<R: Read, W: Write, A: Accounts + Drop, D: DataConnection + Dro
         × (failures : ℕ) × IfOk result
         (Serves (Some 4096) (gated_law (transfers_law answers))
         (snapshot (limited_to 3 (closed (A.accepts accounts)
-        (new_transfer (D.answers connection) file.items))) 0
+        (new_transfers (D.answers connection) file.items))) 0
         (output_state_of W.contents writer.old))
         (snapshot state failures (output_state_of W.contents writer.new))
         (input_state_of R.remaining reader.old) (input_state_of R.remaining reader.new)) }
@@ -47,7 +47,7 @@ pub fn serve_file<R: Read, W: Write, A: Accounts + Drop, D: DataConnection + Dro
         × (failures : ℕ) × IfErr result
         (ServeEnded (Some 4096) (gated_law (transfers_law answers))
         (snapshot (limited_to 3 (closed (A.accepts accounts)
-        (new_transfer (D.answers connection) file.items))) 0
+        (new_transfers (D.answers connection) file.items))) 0
         (output_state_of W.contents writer.old))
         (snapshot state failures (output_state_of W.contents writer.new))
         (input_state_of R.remaining reader.old) (input_state_of R.remaining reader.new)) }

@@ -19,7 +19,7 @@ use Rattle.unftp_control_defs.proofs.ExchangeLemmas.{length-replies_by_event, re
 use Rattle.unftp_control_serve.specs.Writing.{Begins}
 use Rattle.unftp_control_defs.specs.Turns.{IsExchange, cut_reads, is_preliminary_read}
 use Rattle.unftp_control_client.specs.Exchange.{new_client}
-use Rattle.unftp_control_client.specs.Steps.{AreDialogueSteps, AreExchanges, AreClientSteps, ClientStep, ReplyTo, Received, SentLine, Took, after_to, decoder_steps, is_final, is_something, lines_sent, replies_taken, sent_line, taken_by, was_owed}
+use Rattle.unftp_control_client.specs.Steps.{AreDialogueSteps, AreExchanges, AreClientSteps, ClientStep, ReplyTo, Received, SentLine, Took, after_to, decoder_steps, is_final, is_something, lines_sent, replies_taken, line_of_step, taken_by, was_owed}
 use Rattle.unftp_control_client.specs.declared.Client.{Client}
 use Rattle.unftp_control_client.specs.declared.dialogue.To.{To}
 use Rattle.unftp_control_client.specs.declared.dialogue.To.TheVariants.{Greeting, Command, Nothing}
@@ -166,7 +166,7 @@ module _ {S : Type 0} (server : Server S) (limit : Option ℕ) (acts : List Act)
     lines_so : lines_of_client acts ≡ lines_of_client before ++ lines_of_client later
     lines_so = ap lines_of_client split
         ∙ ap lines_sent (filter_map-append at_client before later)
-        ∙ filter_map-append sent_line (client_steps before) (client_steps later)
+        ∙ filter_map-append line_of_step (client_steps before) (client_steps later)
 
     came_first : Begins (sent_by_client acts) (came_to_server before)
     came_first = let sent = (talk.in_order before later split).to_server in (
@@ -265,7 +265,7 @@ module _ {S : Type 0} (server : Server S) (limit : Option ℕ) (acts : List Act)
             both,
         ap (λ taken. length (cut_reads (map (λ (t : ReplyTo). t.reply) taken)))
             (filter_map-append taken_by (client_steps before) (Took taken ∷ [])),
-        ap length (filter_map-append sent_line (client_steps before) (Took taken ∷ [])),
+        ap length (filter_map-append line_of_step (client_steps before) (Took taken ∷ [])),
         length-append (lines_of_client before) [],
       ))
 

@@ -23,7 +23,7 @@ pub own : IsNumeralModel AreDigits (digits_value 10)
 own = numerals_by_value AreDigits tells
 
 -- the digit at this place, and the number that the digits up to it are
-pub record IsDigitRun (text : Bytes) (i : ℕ) : Type 0 where
+pub record HasDigitAt (text : Bytes) (i : ℕ) : Type 0 where
   pub digit : 48 ≤ get_or text i 0
   pub value : digits_value 10 (take (i + 1) text)
       ≡ 10 * digits_value 10 (take i text) + (get_or text i 0 - 48)
@@ -33,7 +33,7 @@ pub digits_of : (most : ℕ) (text : Bytes) → is_number most text ≡ true →
 digits_of most text e = search (rules, tests, arith)
 
 pub step : (most : ℕ) (text : Bytes) (i : ℕ) → is_number most text ≡ true → most ≤ 5 → i < length text
-    → IsDigitRun text i
+    → HasDigitAt text i
 step most text i e short within =
     let digits = digits_of most text e in
     let d : IsInRange 48 57 (get_or text i 0) = digit_at text i (own.to text digits.0) within in

@@ -14,9 +14,9 @@ use Rattle.unftp_control_defs.specs.Bytes.{Bytes, SP}
 use Rattle.unftp_control_defs.specs.ComputedValue.{value_of}
 use Rattle.unftp_control_defs.specs.Events.{FtpEvent, Command, event_of}
 use Rattle.unftp_control_defs.specs.FtpCommand.{FtpCommand, Rest, Outcome, InvalidCommand, InvalidUtf8, Nothing, Text, Value, command_by, kind, maybe_raw, maybe_text, unless_empty, verbs, word, Said}
-use Rattle.unftp_control_defs.specs.Outcome.{outcome, parameter_answer, site_answer, value_answer, word_answer}
+use Rattle.unftp_control_defs.specs.Outcome.{outcome, parameter_outcome, site_outcome, value_outcome, word_outcome}
 use Rattle.unftp_control_defs.specs.Paths.{path_of}
-use Rattle.unftp_control_defs.specs.Rules.{auth, buffer_sizes, chosen, mechanisms, modes, offset, optional_text, options, protections, row_of, structures, subcommand_answer, taken, typed_answer}
+use Rattle.unftp_control_defs.specs.Rules.{auth, buffer_sizes, chosen, mechanisms, modes, offset, optional_text, options, protections, row_of, structures, subcommand_outcome, taken, typed_outcome}
 use Rattle.unftp_control_defs.specs.Said.{KindSaysBack, SaysBack, MeansCommand, name_on_line, value_bytes}
 use Rattle.unftp_control_defs.specs.Values.{ReadsLater, ends_crlf, ends_lf, cr_nul, byte, Reads, nothing, ended, ended_crlf, one_byte, first_cr_nul, first_byte}
 use Rattle.unftp_control_defs.specs.Verbs.{verb_of, parameter_of, upper, is_separator}
@@ -134,7 +134,7 @@ rest_room v =
     (λ _. omega arith)
 
 typed_room : (verb : Verb) (v : Bytes)
-    → room (typed_answer verb v) ≤ length (word verb) + 3 * length v
+    → room (typed_outcome verb v) ≤ length (word verb) + 3 * length v
 typed_room verb.Stru v = chosen_room structures (search rules) v
 typed_room verb.Mode v = chosen_room modes (search rules) v
 typed_room verb.Prot v = chosen_room protections (search rules) v
@@ -187,18 +187,18 @@ module _ (verb : Verb) (name : Bytes) where
         length-utf8_lossy v,
       )
   taken_room kinds.Typed nameless v = subst
-      (λ name. room (typed_answer verb v) ≤ length (name_on_line (word verb) name) + 3 * length v)
+      (λ name. room (typed_outcome verb v) ≤ length (name_on_line (word verb) name) + 3 * length v)
       (sym nameless) (omega (arith, typed_room verb v, name_length (word verb)))
   taken_room kinds.Ignored says v = omega arith
   taken_room kinds.Subcommand says v = omega arith
 
   value_room_of : (kind : Kind) → KindSaysBack kind verb name → (parameter : Bytes)
-      → room (value_answer (taken kind verb name) (value_of parameter))
+      → room (value_outcome (taken kind verb name) (value_of parameter))
       ≤ said_length + 3 * length parameter
   value_room_of kind says parameter = by_value (value_of parameter) refl
     where
       by_value : (o : Option Bytes) → value_of parameter ≡ o
-          → room (value_answer (taken kind verb name) o) ≤ said_length + 3 * length parameter
+          → room (value_outcome (taken kind verb name) o) ≤ said_length + 3 * length parameter
       by_value None is = omega arith
       by_value (Some v) is = omega (
         arith,
@@ -219,11 +219,12 @@ cut_length bytes =
     )
 
 subcommand_room : (name parameter : Bytes)
-    → room (value_answer (subcommand_answer name) (value_of parameter))
+    → room (value_outcome (subcommand_outcome name) (value_of parameter))
     ≤ length name + 3 * length parameter
 subcommand_room name parameter = cond_both (bytes_eq name (codes "MD5"))
     (taken kinds.Text verb.Md5 []) (taken kinds.OptionalText verb.Site name)
-    (λ answer. room (value_answer answer (value_of parameter)) ≤ length name + 3 * length parameter)
+    (λ answer. room (value_outcome answer
+    (value_of parameter)) ≤ length name + 3 * length parameter)
     (λ is. omega (
       arith,
       value_room_of verb.Md5 [] kinds.Text (fits verb.Md5) parameter,
@@ -231,9 +232,9 @@ subcommand_room name parameter = cond_both (bytes_eq name (codes "MD5"))
     ))
     (λ _. value_room_of verb.Site name kinds.OptionalText (site_fits name) parameter)
 
-site_room : (parameter : Bytes) → room (site_answer parameter) ≤ 3 * length parameter
+site_room : (parameter : Bytes) → room (site_outcome parameter) ≤ 3 * length parameter
 site_room parameter = cond_both (is_utf8 (verb_of parameter))
-    (value_answer (subcommand_answer (upper (verb_of parameter)))
+    (value_outcome (subcommand_outcome (upper (verb_of parameter)))
     (value_of (parameter_of parameter)))
     (Err InvalidUtf8) (λ answer. room answer ≤ 3 * length parameter)
     (λ _. omega (
@@ -244,7 +245,7 @@ site_room parameter = cond_both (is_utf8 (verb_of parameter))
     (λ _. omega arith)
 
 parameter_room : (kind : Kind) (verb : Verb) (name : Bytes) → KindSaysBack kind verb name
-    → (parameter : Bytes) → room (parameter_answer kind verb name parameter)
+    → (parameter : Bytes) → room (parameter_outcome kind verb name parameter)
     ≤ length (name_on_line (word verb) name) + 3 * length parameter
 parameter_room kinds.Ignored verb name says parameter =
     omega (arith, says_room verb name Nothing says)
@@ -270,12 +271,12 @@ all_words = search arith
 -- the name and the value of a line's command
 pub outcome_room : (line : Bytes) → lengths (event_of (outcome line)) ≤ 3 * length line
 outcome_room line = cond_both (is_utf8 (verb_of line))
-    (word_answer (upper (verb_of line)) (row_of (upper (verb_of line)) verbs) (parameter_of line))
+    (word_outcome (upper (verb_of line)) (row_of (upper (verb_of line)) verbs) (parameter_of line))
     (Err InvalidUtf8) (λ answer. room answer ≤ 3 * length line)
     (λ _. by_row (row_of (upper (verb_of line)) verbs) refl) (λ _. omega arith)
   where
     by_row : (row : Option Verb) → row_of (upper (verb_of line)) verbs ≡ row
-        → room (word_answer (upper (verb_of line)) row (parameter_of line)) ≤ 3 * length line
+        → room (word_outcome (upper (verb_of line)) row (parameter_of line)) ≤ 3 * length line
     by_row None is = omega (
       arith,
       cut_length line,

@@ -5,7 +5,7 @@ use Rattle.unftp_control_defs.specs.Events.{FtpEvent, Command, Refused, event_of
 use Rattle.unftp_control_defs.specs.Said.{word_and_value}
 use Rattle.unftp_control_defs.specs.FtpCommand.{Outcome, number, Said, said}
 use Rattle.unftp_control_defs.specs.Outcome.{outcome}
-use Rattle.unftp_control_codecs.specs.Memory.{AnswerMayTakeMemory, MayTakeMemory}
+use Rattle.unftp_control_codecs.specs.Memory.{OutcomeMayTakeMemory, MayTakeMemory}
 use Rattle.unftp_control_codecs.specs.Codec.{Codec}
 use Rattle.unftp_control_codecs.specs.FirstLine.{first_line, goes_on, reset}
 use Rattle.unftp_control_codecs.specs.declared.FirstLine.{FirstLine}
@@ -160,7 +160,7 @@ LineMayTakeMemory call = (n : ℕ) × (is_valid call.connection (length call.byt
 -- The command is given. Memory may run out for one that holds some, and is not in the line as it is.
 abbrev pub GivesCommand : Call → ℕ → Outcome → Type 0 → Left → Type 0
 GivesCommand call n answer in_line left = (left ≡ gives call n (given_for (event_of answer)))
-    ⊎ (¬ in_line × AnswerMayTakeMemory answer × (left ≡ kept call OutOfMemory))
+    ⊎ (¬ in_line × OutcomeMayTakeMemory answer × (left ≡ kept call OutOfMemory))
 
 -- what is left after a complete line that is not too long
 abbrev pub LeavesLine : Call → Bytes → Left → Type 0

@@ -59,12 +59,12 @@ AreDialogueSteps before (step ∷ steps) after =
     (next : Dialogue) × IsDialogueStep before step next × AreDialogueSteps next steps after
 
 -- the line that a step sends, and those of some steps
-abbrev pub sent_line : ClientStep → Option Bytes
-sent_line (SentLine line) = Some line
-sent_line _ = None
+abbrev pub line_of_step : ClientStep → Option Bytes
+line_of_step (SentLine line) = Some line
+line_of_step _ = None
 
 abbrev pub lines_sent : List ClientStep → List Bytes
-lines_sent steps = filter_map sent_line steps
+lines_sent steps = filter_map line_of_step steps
 
 -- the replies that were taken
 abbrev pub taken_by : ClientStep → Option ReplyTo

@@ -5,7 +5,7 @@ use Rattle.std.proofs.lemmas.Simd.{bitmask_splat, length-chunk, none_from_empty_
 use Rattle.std.specs.Simd.Lanes.{chunk, mask_l, top, zip2}
 use Rattle.unftp_control_defs.specs.Bytes.{Bytes, CR, LF}
 use Rattle.unftp_control_defs.specs.Verbs.{is_separator}
-use Rattle.unftp_control_codecs.specs.Values.{NoStop}
+use Rattle.unftp_control_codecs.specs.Values.{LacksRunEnd}
 
 module _ (bytes : Bytes) (from n : ℕ) where
   -- a bit for each of n bytes, 1 where it is this one
@@ -20,7 +20,7 @@ module _ (bytes : Bytes) (from n : ℕ) where
         (sym (bitmask_splat w8 eqb (chunk from n bytes) n byte (length-chunk from n bytes room) few)
         ∙ none)
 
-    pub no_stop_found : found CR ≡ 0 → found LF ≡ 0 → NoStop bytes from (from + n)
+    pub no_stop_found : found CR ≡ 0 → found LF ≡ 0 → LacksRunEnd bytes from (from + n)
     no_stop_found no_cr no_lf k low high stop = ⊎_elim
         (λ is. false≢true (sym (other CR no_cr k low high) ∙ is))
         (λ is. false≢true (sym (other LF no_lf k low high) ∙ is))

@@ -11,7 +11,7 @@ use Rattle.unftp_control_defs.specs.Rules.{row_of}
 use Rattle.unftp_control_defs.specs.declared.verb.Kind.TheVariants as kinds
 use Rattle.unftp_control_defs.specs.declared.verb.Verb.{Verb}
 use Rattle.unftp_control_defs.specs.declared.verb.Verb.TheVariants as verb
-use Rattle.unftp_control_defs.specs.Outcome.{outcome, parameter_answer}
+use Rattle.unftp_control_defs.specs.Outcome.{outcome, parameter_outcome}
 use Rattle.unftp_control_defs.proofs.CaseLemmas.{is_utf8-upper}
 use Rattle.unftp_control_defs.proofs.WordLemmas.{none_of}
 
@@ -26,12 +26,12 @@ named_utf8 word verb e = true_from_ne_false (is_utf8 word) (λ ill.
     let none = none_of is_utf8 (upper word) verbs utf8_verbs (is_utf8-upper word ∙ ill) in cc)
 
 pub outcome-named : (line : Bytes) {verb : Verb} → row_of (upper (verb_of line)) verbs ≡ Some verb
-    → outcome line ≡ parameter_answer (kind verb) verb [] (parameter_of line)
+    → outcome line ≡ parameter_outcome (kind verb) verb [] (parameter_of line)
 outcome-named line {verb} named = rw (named_utf8 (verb_of line) verb named, named)
 
 pub outcome-other : (line : Bytes) → row_of (upper (verb_of line)) verbs ≡ None
     → is_utf8 (verb_of line) ≡ true → outcome line
-    ≡ parameter_answer kinds.OptionalText verb.Other (upper (verb_of line)) (parameter_of line)
+    ≡ parameter_outcome kinds.OptionalText verb.Other (upper (verb_of line)) (parameter_of line)
 outcome-other line none utf8 = rw (utf8, none)
 
 -- what is not UTF-8 fails the test

@@ -6,10 +6,10 @@ use Rattle.unftp_control_message.specs.PartsMeaning.{Fails, said_len}
 use Rattle.unftp_control_message.proofs.HeldLemmas.{held_said}
 use Rattle.unftp_control_message.specs.declared.reply.error.parse_error.ParseErrorKind.{ParseErrorKind}
 use Rattle.unftp_control_message.specs.declared.reply.error.parse_error.ParseErrorKind.TheVariants as kind
-use Rattle.unftp_control_codecs.specs.Memory.{AnswerMayTakeMemory, FailsWith, IsRefusal}
+use Rattle.unftp_control_codecs.specs.Memory.{OutcomeMayTakeMemory, FailsWith, IsRefusal}
 
 may_take : (answer : Outcome) (parts : Said) → MeansCommand answer parts → 0 < said_len parts
-    → AnswerMayTakeMemory answer
+    → OutcomeMayTakeMemory answer
 may_take (Ok command) parts told some =
     omega (arith, held_said command, ap said_len told, some)
 may_take (Err refusal) parts told some = absurd told

@@ -8,7 +8,7 @@ use Rattle.unftp_control_defs.specs.Bytes.{Bytes, NUL, LF, CR, crlf}
 use Rattle.unftp_control_defs.specs.ComputedValue.{After, Fresh, Plain, byte_then, later_value, value_of}
 use Rattle.unftp_control_message.specs.SentValues.{begins_with_cr_nul, cr_nul_count, unescaped}
 use Rattle.unftp_control_message.proofs.SentLemmas.{cr_nul_front, lacks_before, unescaped_front, unescaped_lacking}
-use Rattle.unftp_control_codecs.specs.Values.{ends_run, begins_with_line_end, IsFirstLen, IsLaterLen, IsPlainEnd, IsRunEnd, NoStop, Resumes}
+use Rattle.unftp_control_codecs.specs.Values.{ends_run, begins_with_line_end, IsFirstLen, IsLaterLen, IsPlainEnd, IsRunEnd, LacksRunEnd, Resumes}
 
 option_nil : (o : Option Bytes) → o ≡ option_map (λ w. [] ++ w) o
 option_nil None = refl
@@ -19,7 +19,7 @@ option_joined : (v w : Bytes) (o : Option Bytes)
 option_joined v w None = refl
 option_joined v w (Some x) = ap Some (sym (append_assoc v w x))
 
-skip : (bytes : Bytes) (n : ℕ) → n ≤ length bytes → NoStop bytes 0 n
+skip : (bytes : Bytes) (n : ℕ) → n ≤ length bytes → LacksRunEnd bytes 0 n
     → later_value Plain bytes ≡ option_map (λ w. take n bytes ++ w)
     (later_value Plain (drop n bytes))
 skip bytes zero h none = option_nil (later_value Plain bytes)
@@ -32,7 +32,7 @@ skip (b ∷ bytes) (suc n) h none =
     ∙ option_joined (b ∷ []) (take n bytes) (later_value Plain (drop n bytes)))
 
 -- a run that ends at the first byte that stops one
-pub run_end : (bytes : Bytes) (n : ℕ) → n ≤ length bytes → NoStop bytes 0 n
+pub run_end : (bytes : Bytes) (n : ℕ) → n ≤ length bytes → LacksRunEnd bytes 0 n
     → (n < length bytes → ends_run (get_or bytes n 0) ≡ true) → IsPlainEnd bytes n
 run_end bytes n within none stop = record {
   within = within;
@@ -42,7 +42,7 @@ run_end bytes n within none stop = record {
 }
 
 -- a value with no CR and no LF, and its line end
-later_value-usual : (fresh : Bool) (value : Bytes) → NoStop value 0 (length value)
+later_value-usual : (fresh : Bool) (value : Bytes) → LacksRunEnd value 0 (length value)
     → later_value (After fresh) (value ++ crlf) ≡ Some value
 later_value-usual fresh [] none = refl
 later_value-usual fresh (b ∷ value) none =
@@ -51,7 +51,7 @@ later_value-usual fresh (b ∷ value) none =
     rw (on.0, on.1, and-false (not fresh)) (ap (byte_then b) (later_value-usual false value
     (λ k _ lt. none (suc k) (omega arith) (omega arith))))
 
-pub value_of-usual : (value : Bytes) → NoStop value 0 (length value)
+pub value_of-usual : (value : Bytes) → LacksRunEnd value 0 (length value)
     → value_of (value ++ crlf) ≡ Some value
 value_of-usual [] none = refl
 value_of-usual (a ∷ []) none =

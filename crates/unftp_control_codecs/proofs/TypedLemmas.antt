@@ -4,7 +4,7 @@ use Rattle.std.proofs.lemmas.Bool.{cases_lt, lt-ltb}
 use Rattle.std.specs.Str.Lossy.{utf8_lossy}
 use Rattle.unftp_control_defs.specs.Bytes.{Bytes}
 use Rattle.unftp_control_defs.specs.FtpCommand.{InvalidCommand}
-use Rattle.unftp_control_defs.specs.Rules.{auth, typed_answer, offset, structures, modes, protections, options, buffer_sizes}
+use Rattle.unftp_control_defs.specs.Rules.{auth, typed_outcome, offset, structures, modes, protections, options, buffer_sizes}
 use Rattle.unftp_control_defs.specs.declared.verb.Verb.{Verb}
 use Rattle.unftp_control_defs.specs.declared.verb.Verb.TheVariants as verbs
 use Rattle.unftp_control_message.specs.SentValues.{unescaped}
@@ -12,7 +12,7 @@ use Rattle.unftp_control_codecs.proofs.OffsetLemmas.{offset_return}
 use Rattle.unftp_control_codecs.proofs.ReturnLemmas.{same_answer_unescaped, same_choice}
 
 pub same_answer : (verb : Verb) (sent : Bytes) → (verb ≡ verbs.Auth → ⊥)
-    → typed_answer verb (unescaped sent) ≡ typed_answer verb sent
+    → typed_outcome verb (unescaped sent) ≡ typed_outcome verb sent
 same_answer verbs.Auth sent other = absurd (other refl)
 same_answer verbs.Mode sent other = same_choice modes sent refl
 same_answer verbs.Opts sent other = same_choice options sent refl

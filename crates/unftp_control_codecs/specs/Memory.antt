@@ -15,13 +15,13 @@ use Rattle.unftp_control_message.specs.declared.reply.error.parse_error.ParseErr
 use Rattle.unftp_control_message.specs.declared.reply.error.parse_error.ParseErrorKind.TheVariants as kind
 
 -- The outcome is a command that holds bytes. No refusal takes memory.
-abbrev pub AnswerMayTakeMemory : Outcome → Type 0
-AnswerMayTakeMemory (Ok command) = 0 < held_len command
-AnswerMayTakeMemory (Err refusal) = ⊥
+abbrev pub OutcomeMayTakeMemory : Outcome → Type 0
+OutcomeMayTakeMemory (Ok command) = 0 < held_len command
+OutcomeMayTakeMemory (Err refusal) = ⊥
 
 -- so is the command of the line
 abbrev pub MayTakeMemory : Bytes → Type 0
-MayTakeMemory line = AnswerMayTakeMemory (outcome line)
+MayTakeMemory line = OutcomeMayTakeMemory (outcome line)
 
 -- where memory ran out, P
 abbrev pub IfOutOfMemory : ParseErrorKind → Type 0 → Type 0
@@ -36,7 +36,7 @@ OnOutOfMemory (Err error) P = IfOutOfMemory error P
 
 -- A part of the parser returns this outcome, and runs out of memory only where it may take some.
 abbrev pub FailsWith : Outcome → ParseErrorKind → Type 0
-FailsWith answer kind.OutOfMemory = AnswerMayTakeMemory answer
+FailsWith answer kind.OutOfMemory = OutcomeMayTakeMemory answer
 FailsWith answer error = Refuses answer error
 
 abbrev pub ParsesTo : Outcome → Result Command ParseErrorKind → Type 0

@@ -30,8 +30,8 @@ abbrev pub ends_run : ℕ → Bool
 ends_run b = (b == CR) || (b == LF)
 
 -- None of the bytes from i up to j ends a run.
-abbrev pub NoStop : Bytes → ℕ → ℕ → Type 0
-NoStop bytes i j = (k : ℕ) → i ≤ k → k < j → ¬ (ends_run (slice_index bytes k) ≡ true)
+abbrev pub LacksRunEnd : Bytes → ℕ → ℕ → Type 0
+LacksRunEnd bytes i j = (k : ℕ) → i ≤ k → k < j → ¬ (ends_run (slice_index bytes k) ≡ true)
 
 -- So many bytes are written as they are, and then there is nothing more or one that ends the run.
 pub record IsRunEnd (context : Context) (bytes : Bytes) (n : ℕ) : Type 0 where

@@ -1,7 +1,7 @@
 -- What the words that a line begins with leave to be read.
 use Rattle.std.specs.Prelude.{◌≡◌, ◌≢◌, Result, Ok, Err}
 use Rattle.unftp_control_defs.specs.FtpCommand.{Outcome}
-use Rattle.unftp_control_defs.specs.Outcome.{parameter_answer}
+use Rattle.unftp_control_defs.specs.Outcome.{parameter_outcome}
 use Rattle.unftp_control_defs.specs.Said.{KindSaysBack}
 use Rattle.unftp_control_defs.specs.Verbs.{upper}
 use Rattle.unftp_control_defs.specs.declared.verb.Kind.TheVariants as kinds
@@ -12,7 +12,7 @@ use Rattle.unftp_control_message.specs.declared.reply.error.parse_error.ParseErr
 -- the outcome is what the verb makes of the parameter
 pub record AreWords (answer : Outcome) (words : Words) : Type 0 where
   pub read : answer
-      ≡ parameter_answer words.kind words.verb (upper words.name.now) words.parameter.now
+      ≡ parameter_outcome words.kind words.verb (upper words.name.now) words.parameter.now
   pub fits : KindSaysBack words.kind words.verb (upper words.name.now)
   pub split : words.kind ≢ kinds.Subcommand
 

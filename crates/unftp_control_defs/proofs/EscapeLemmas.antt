@@ -9,7 +9,7 @@ use Rattle.unftp_control_defs.specs.FtpCommand.{User, command_by, maybe_raw, unl
 use Rattle.unftp_control_defs.specs.Rules.{taken}
 use Rattle.unftp_control_defs.specs.declared.verb.Kind.TheVariants as kinds
 use Rattle.unftp_control_defs.specs.declared.verb.Verb.TheVariants as verb
-use Rattle.unftp_control_defs.specs.Outcome.{outcome, value_answer}
+use Rattle.unftp_control_defs.specs.Outcome.{outcome, value_outcome}
 use Rattle.unftp_control_defs.proofs.LackLemmas.{Lacks-decimal}
 use Rattle.unftp_control_defs.proofs.LineEndLemmas.{not_cr}
 use Rattle.unftp_control_defs.proofs.ValueLemmas.{value_of-Reads}
@@ -50,7 +50,7 @@ pub escaped-decimal : (n : ℕ) → escaped (decimal n) ≡ decimal n
 escaped-decimal n = escaped-without_cr (decimal n) (Lacks-decimal CR n (omega arith))
 
 user_line : (parameter : Bytes) → outcome (codes "USER" ++ SP ∷ parameter)
-    ≡ value_answer (taken kinds.Raw verb.User []) (value_of parameter)
+    ≡ value_outcome (taken kinds.Raw verb.User []) (value_of parameter)
 unfolding is_utf8 chars lib.Utf8.encode
 user_line parameter = refl
 
@@ -58,7 +58,7 @@ user_line parameter = refl
 pub outcome-escaped : (name : Bytes) → Lacks LF name
     → outcome (codes "USER " ++ escaped name ++ crlf) ≡ Ok (User name)
 outcome-escaped name h = user_line (escaped name ++ crlf)
-    ∙ ap (value_answer (taken kinds.Raw verb.User [])) (value_of-escaped name h) ∙ user name
+    ∙ ap (value_outcome (taken kinds.Raw verb.User [])) (value_of-escaped name h) ∙ user name
   where
     user : (name : Bytes) → command_by verb.User [] (maybe_raw (unless_empty name)) ≡ Ok (User name)
     user [] = refl

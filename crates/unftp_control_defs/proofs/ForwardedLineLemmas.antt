@@ -10,12 +10,12 @@ use Rattle.unftp_control_defs.specs.Verbs.{is_separator, verb_of, parameter_of, 
 use Rattle.unftp_control_defs.specs.Values.{ReadsLater, ends_crlf, ends_lf, cr_nul, byte, Reads, nothing, ended, ended_crlf, one_byte, first_cr_nul, first_byte}
 use Rattle.unftp_control_defs.specs.ComputedValue.{value_of}
 use Rattle.unftp_control_defs.specs.FtpCommand.{Outcome, FtpCommand, InvalidUtf8, kind, verbs}
-use Rattle.unftp_control_defs.specs.Rules.{row_of, subcommand_answer, taken}
+use Rattle.unftp_control_defs.specs.Rules.{row_of, subcommand_outcome, taken}
 use Rattle.unftp_control_defs.specs.declared.verb.Kind.{Kind}
 use Rattle.unftp_control_defs.specs.declared.verb.Kind.TheVariants as kinds
 use Rattle.unftp_control_defs.specs.declared.verb.Verb.{Verb}
 use Rattle.unftp_control_defs.specs.declared.verb.Verb.TheVariants as verb
-use Rattle.unftp_control_defs.specs.Outcome.{outcome, parameter_answer, site_answer, value_answer, word_answer}
+use Rattle.unftp_control_defs.specs.Outcome.{outcome, parameter_outcome, site_outcome, value_outcome, word_outcome}
 use Rattle.unftp_control_defs.specs.Canonical.{canonical_line, HasLine}
 use Rattle.unftp_control_defs.specs.Forwarded.{keeps_parameter, begins_with_lf, begins_end, before_end, with_parameter, kept_line, forwarded_line}
 use Rattle.unftp_control_defs.proofs.SoundLemmas.{passed}
@@ -216,35 +216,35 @@ made_cut_again [] = (refl, refl)
 made_cut_again (b ∷ text) = ended_cut (b ∷ text)
 
 value_answer_kept : (answer : Bytes → Outcome) (parameter : Bytes) {command : FtpCommand}
-    → EndsAtLf parameter → value_answer answer (value_of parameter) ≡ Ok command
-    → value_answer answer (value_of (before_end parameter ++ crlf)) ≡ Ok command
+    → EndsAtLf parameter → value_outcome answer (value_of parameter) ≡ Ok command
+    → value_outcome answer (value_of (before_end parameter ++ crlf)) ≡ Ok command
 value_answer_kept answer parameter {command} ends e = by_option (value_of parameter) refl e
   where
-    by_option : (o : Option Bytes) → value_of parameter ≡ o → value_answer answer o ≡ Ok command
-        → value_answer answer (value_of (before_end parameter ++ crlf)) ≡ Ok command
+    by_option : (o : Option Bytes) → value_of parameter ≡ o → value_outcome answer o ≡ Ok command
+        → value_outcome answer (value_of (before_end parameter ++ crlf)) ≡ Ok command
     by_option None q f = cc
-    by_option (Some v) q f = ap (value_answer answer) (value_kept parameter v ends q) ∙ f
+    by_option (Some v) q f = ap (value_outcome answer) (value_kept parameter v ends q) ∙ f
 
 site_kept : (parameter : Bytes) {command : FtpCommand} → EndsAtLf parameter
-    → site_answer parameter ≡ Ok command
-    → site_answer (made_parameter (before_end parameter)) ≡ Ok command
+    → site_outcome parameter ≡ Ok command
+    → site_outcome (made_parameter (before_end parameter)) ≡ Ok command
 site_kept parameter {command} ends e =
     let cut = cut-before_end parameter ends in
     let made = made_cut_again (before_end parameter) in
-    let answer : Bytes → Outcome = subcommand_answer (upper (verb_of parameter)) in
+    let answer : Bytes → Outcome = subcommand_outcome (upper (verb_of parameter)) in
     let read = passed (is_utf8 (verb_of parameter))
-    (value_answer answer (value_of (parameter_of parameter))) InvalidUtf8 command e in
+    (value_outcome answer (value_of (parameter_of parameter))) InvalidUtf8 command e in
     rw (made.0 ∙ cut.0, made.1 ∙ ap (λ text. value_of (text ++ crlf)) cut.1, read.0)
     (value_answer_kept answer (parameter_of parameter) (parameter_of-ends parameter ends) read.1)
 
 -- the verb makes the same of them
 answer_kept : (kind : Kind) (verb : Verb) (word parameter : Bytes) {command : FtpCommand}
-    → EndsAtLf parameter → parameter_answer kind verb word parameter ≡ Ok command
-    → parameter_answer kind verb word (made_parameter (before_end parameter)) ≡ Ok command
+    → EndsAtLf parameter → parameter_outcome kind verb word parameter ≡ Ok command
+    → parameter_outcome kind verb word (made_parameter (before_end parameter)) ≡ Ok command
 answer_kept kinds.Ignored verb word parameter ends e = e
 answer_kept kinds.Subcommand verb word parameter ends e = site_kept parameter ends e
 answer_kept kind verb word parameter ends e =
-    ap (value_answer (taken kind verb word)) (value_of-made_parameter (before_end parameter))
+    ap (value_outcome (taken kind verb word)) (value_of-made_parameter (before_end parameter))
     ∙ value_answer_kept (taken kind verb word) parameter ends e
 
 -- The line that is made of a name.
@@ -292,11 +292,11 @@ module _ (line : Bytes) (command : FtpCommand) (is_line : IsLine line)
   abbrev row : Option Verb
   row = row_of name verbs
 
-  read : (is_utf8 (verb_of line) ≡ true) × (word_answer name row (parameter_of line) ≡ Ok command)
-  read = passed (is_utf8 (verb_of line)) (word_answer name row (parameter_of line)) InvalidUtf8
+  read : (is_utf8 (verb_of line) ≡ true) × (word_outcome name row (parameter_of line) ≡ Ok command)
+  read = passed (is_utf8 (verb_of line)) (word_outcome name row (parameter_of line)) InvalidUtf8
       command means
 
-  kept_answer : outcome (kept_line line) ≡ word_answer name row (made_parameter text)
+  kept_answer : outcome (kept_line line) ≡ word_outcome name row (made_parameter text)
   kept_answer =
       let cut = made_cut name (bare_verb line) text in
       rw (
@@ -312,8 +312,8 @@ module _ (line : Bytes) (command : FtpCommand) (is_line : IsLine line)
       ends : EndsAtLf (parameter_of line)
       ends = parameter_of-ends line (IsLine-ends line is_line)
 
-      by_row : (row : Option Verb) → word_answer name row (parameter_of line) ≡ Ok command
-          → word_answer name row (made_parameter text) ≡ Ok command
+      by_row : (row : Option Verb) → word_outcome name row (parameter_of line) ≡ Ok command
+          → word_outcome name row (made_parameter text) ≡ Ok command
       by_row None e = answer_kept kinds.OptionalText verb.Other name (parameter_of line) ends e
       by_row (Some verb) e = answer_kept (kind verb) verb [] (parameter_of line) ends e
 

@@ -10,8 +10,8 @@ use Rattle.unftp_control_defs.specs.Paths.{path_of}
 use Rattle.unftp_control_defs.specs.ComputedValue.{value_of}
 use Rattle.unftp_control_defs.specs.FtpCommand.{Outcome, FtpCommand, Refusal, InvalidCommand, InvalidUtf8, Rest, Nothing, Text, Said, Value, command_by, kind, maybe_text, said, unless_empty, verbs}
 use Rattle.unftp_control_defs.specs.Said.{KindSaysBack, SaysBack, MeansCommand}
-use Rattle.unftp_control_defs.specs.Rules.{buffer_sizes, chosen, mechanisms, modes, optional_text, options, protections, row_of, structures, subcommand_answer, taken, typed_answer}
-use Rattle.unftp_control_defs.specs.Outcome.{outcome, parameter_answer, value_answer, word_answer}
+use Rattle.unftp_control_defs.specs.Rules.{buffer_sizes, chosen, mechanisms, modes, optional_text, options, protections, row_of, structures, subcommand_outcome, taken, typed_outcome}
+use Rattle.unftp_control_defs.specs.Outcome.{outcome, parameter_outcome, value_outcome, word_outcome}
 use Rattle.unftp_control_defs.specs.Forwarded.{keeps, keeps_parameter, kind_keeps}
 use Rattle.unftp_control_defs.specs.declared.verb.Kind.{Kind}
 use Rattle.unftp_control_defs.specs.declared.verb.Kind.TheVariants as kinds
@@ -52,7 +52,7 @@ chosen_keeps (row ∷ rows) each v = by_test (bytes_eq row.0 v) (chosen_keeps ro
     by_test true more = each.0
     by_test false more = more
 
-typed_keeps : (verb : Verb) (v : Bytes) → KeepsAs false (typed_answer verb v)
+typed_keeps : (verb : Verb) (v : Bytes) → KeepsAs false (typed_outcome verb v)
 typed_keeps verb.Stru v = chosen_keeps structures (refl, (refl, (refl, tt))) v
 typed_keeps verb.Mode v = chosen_keeps modes (refl, (refl, (refl, tt))) v
 typed_keeps verb.Prot v = chosen_keeps protections (refl, (refl, (refl, (refl, tt)))) v
@@ -99,11 +99,11 @@ module _ (verb : Verb) (name : Bytes) where
   taken_keeps kinds.Subcommand same says v = tt
 
 value_keeps : (keeps : Bool) (answer : Bytes → Outcome) → ((v : Bytes) → KeepsAs keeps (answer v))
-    → (value : Option Bytes) → KeepsAs keeps (value_answer answer value)
+    → (value : Option Bytes) → KeepsAs keeps (value_outcome answer value)
 value_keeps keeps answer each None = tt
 value_keeps keeps answer each (Some v) = each v
 
-subcommand_keeps : (name v : Bytes) → KeepsAs true (subcommand_answer name v)
+subcommand_keeps : (name v : Bytes) → KeepsAs true (subcommand_outcome name v)
 subcommand_keeps name v = by_test (bytes_eq name (codes "MD5"))
   where
     by_test : (test : Bool) → KeepsAs true
@@ -113,7 +113,7 @@ subcommand_keeps name v = by_test (bytes_eq name (codes "MD5"))
 
 parameter_keeps : (of : Kind) (verb : Verb) (name : Bytes) → kind_keeps (kind verb) ≡ kind_keeps of
     → KindSaysBack of verb name → (parameter : Bytes)
-    → KeepsAs (kind_keeps of) (parameter_answer of verb name parameter)
+    → KeepsAs (kind_keeps of) (parameter_outcome of verb name parameter)
 parameter_keeps kinds.Ignored verb name same says parameter =
     says_keeps verb name true Nothing same says
 parameter_keeps kinds.Subcommand verb name same says parameter =
@@ -124,7 +124,7 @@ parameter_keeps of verb name same says parameter =
     value_keeps (kind_keeps of) _ (taken_keeps verb name of same says) (value_of parameter)
 
 word_keeps : (word : Bytes) (row : Option Verb) (parameter : Bytes)
-    → KeepsAs (keeps row) (word_answer word row parameter)
+    → KeepsAs (keeps row) (word_outcome word row parameter)
 word_keeps word (Some verb) parameter =
     parameter_keeps (kind verb) verb [] refl (fits verb) parameter
 word_keeps word None parameter =

@@ -13,7 +13,7 @@ use Rattle.unftp_control_defs.specs.Rules.{row_of, taken}
 use Rattle.unftp_control_defs.specs.declared.verb.Kind.TheVariants as kinds
 use Rattle.unftp_control_defs.specs.declared.verb.Verb.{Verb}
 use Rattle.unftp_control_defs.specs.declared.verb.Verb.TheVariants as verb
-use Rattle.unftp_control_defs.specs.Outcome.{outcome, value_answer, site_answer}
+use Rattle.unftp_control_defs.specs.Outcome.{outcome, value_outcome, site_outcome}
 use Rattle.unftp_control_defs.specs.Canonical.{spaced_unless_empty, canonical_line, IsUpperCaseName}
 use Rattle.unftp_control_defs.proofs.VerbLemmas.{parted_cut}
 use Rattle.unftp_control_defs.proofs.UpperLemmas.{upper-IsUpperCaseName, bare_name}
@@ -23,7 +23,7 @@ use Rattle.unftp_control_defs.proofs.CommandRoundTripLemmas.{optional_text_back}
 name_back : (read : Bytes → Outcome) (verb : Verb) (name : Bytes) (command : Bytes → FtpCommand)
     → ((text : Bytes) → command_by verb name (maybe_text (unless_empty text)) ≡ Ok (command text))
     → ((b : ℕ) (parameter : Bytes) → is_separator b ≡ true → read (name ++ b ∷ parameter)
-    ≡ value_answer (taken kinds.OptionalText verb name) (value_of parameter))
+    ≡ value_outcome (taken kinds.OptionalText verb name) (value_of parameter))
     → (arguments : Bytes) → Lacks LF arguments → IsUtf8 arguments
     → read (spaced_unless_empty name arguments ++ crlf) ≡ Ok (command arguments)
 name_back read verb name command makes takes [] h utf8 = takes CR (LF ∷ []) refl ∙ makes []
@@ -36,14 +36,14 @@ name_back read verb name command makes takes (b ∷ arguments) h utf8 =
 module _ (name : Bytes) (is_name : IsUpperCaseName name) (is_text : IsUtf8 name) where
   other_line : row_of name verbs ≡ None → (b : ℕ) (parameter : Bytes) → is_separator b ≡ true
       → outcome (name ++ b ∷ parameter)
-      ≡ value_answer (taken kinds.OptionalText verb.Other name) (value_of parameter)
+      ≡ value_outcome (taken kinds.OptionalText verb.Other name) (value_of parameter)
   other_line none b parameter s =
       let cut = parted_cut name b parameter (bare_name name is_name) s in
       rw (cut.0, cut.1, is_utf8-from_IsUtf8 name is_text, upper-IsUpperCaseName name is_name, none)
 
   site_parameter : name ≢ codes "MD5" → (b : ℕ) (parameter : Bytes) → is_separator b ≡ true
-      → site_answer (name ++ b ∷ parameter)
-      ≡ value_answer (taken kinds.OptionalText verb.Site name) (value_of parameter)
+      → site_outcome (name ++ b ∷ parameter)
+      ≡ value_outcome (taken kinds.OptionalText verb.Site name) (value_of parameter)
   site_parameter ne b parameter s =
       let cut = parted_cut name b parameter (bare_name name is_name) s in
       let apart : bytes_eq name (codes "MD5") ≡ false =
@@ -73,10 +73,10 @@ module _ (name : Bytes) (is_name : IsUpperCaseName name) (is_text : IsUtf8 name)
       ∙ name_back outcome verb.Other name (Other name) other_makes (other_line none) arguments h utf8
 
   site_parameter_back : name ≢ codes "MD5" → (arguments : Bytes) → Lacks LF arguments
-      → IsUtf8 arguments → site_answer (spaced_unless_empty name arguments ++ crlf)
+      → IsUtf8 arguments → site_outcome (spaced_unless_empty name arguments ++ crlf)
       ≡ Ok (Site name arguments)
   site_parameter_back ne arguments h utf8 =
-      name_back site_answer verb.Site name (Site name) site_makes (site_parameter ne) arguments h
+      name_back site_outcome verb.Site name (Site name) site_makes (site_parameter ne) arguments h
       utf8
 
 pub site_back : (name arguments : Bytes) → IsUpperCaseName name → name ≢ codes "MD5" → IsUtf8 name

@@ -13,7 +13,7 @@ use Rattle.unftp_control_defs.specs.Paths.{path_of}
 use Rattle.unftp_control_defs.specs.Verbs.{upper}
 use Rattle.unftp_control_defs.specs.FtpCommand.{FtpCommand, Rest, Outcome, Refusal, InvalidCommand, InvalidUtf8, Value, Nothing, Raw, Text, Chosen, Number, by_named_text, by_nothing, by_number, by_optional_raw, by_optional_text, by_raw, by_text, command_by, maybe_raw, maybe_text, unless_empty}
 use Rattle.unftp_control_defs.specs.Said.{HasTypedFields, IsMaybeUtf8, IsTyped}
-use Rattle.unftp_control_defs.specs.Rules.{auth, buffer_sizes, chosen, mechanisms, modes, offset, optional_text, options, protections, structures, taken, typed_answer}
+use Rattle.unftp_control_defs.specs.Rules.{auth, buffer_sizes, chosen, mechanisms, modes, offset, optional_text, options, protections, structures, taken, typed_outcome}
 use Rattle.unftp_control_defs.specs.declared.verb.Kind.{Kind}
 use Rattle.unftp_control_defs.specs.declared.verb.Kind.TheVariants as kinds
 use Rattle.unftp_control_defs.specs.declared.verb.Verb.{Verb}
@@ -175,7 +175,7 @@ offset_sound text meant e =
     sound (Rest n) meant (tt, ltb-true n (2 ^ 64) (and_parts are_digits (nat_lt n (2 ^ 64)) p.0).1)
     p.1
 
-typed_gives : (verb : Verb) → Gives (typed_answer verb)
+typed_gives : (verb : Verb) → Gives (typed_outcome verb)
 typed_gives verbs.Stru = word_gives structures ((tt, tt), ((tt, tt), ((tt, tt), tt)))
 typed_gives verbs.Mode = word_gives modes ((tt, tt), ((tt, tt), ((tt, tt), tt)))
 typed_gives verbs.Prot =

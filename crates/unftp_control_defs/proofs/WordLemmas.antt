@@ -12,7 +12,7 @@ use Rattle.unftp_control_defs.specs.Verbs.{upper}
 use Rattle.unftp_control_defs.specs.FtpCommand.{verbs}
 use Rattle.unftp_control_defs.specs.Rules.{row_of}
 use Rattle.unftp_control_defs.specs.declared.verb.Verb.{Verb}
-use Rattle.unftp_control_defs.specs.Words.{to_four_bytes, from_four_bytes, four_bytes, verb_of_number, word_number}
+use Rattle.unftp_control_defs.specs.Words.{to_four_bytes, from_four_bytes, padded_word, verb_of_number, word_number}
 
 some_is : {X : Type 0} {x y : X} → Some x ≡ Some y → x ≡ y
 some_is e = cc
@@ -52,13 +52,13 @@ no_verb name e = none_of (λ w. is_some (to_four_bytes w)) name verbs all_fit (a
 
 -- a name that is found by its number
 abbrev has_number : Bytes → Bool
-has_number name = bytes_eq (to_be_bytes w32 (word_number name)) (four_bytes name)
-    && bytes_eq (from_four_bytes (four_bytes name)) name
+has_number name = bytes_eq (to_be_bytes w32 (word_number name)) (padded_word name)
+    && bytes_eq (from_four_bytes (padded_word name)) name
 
 all_have_numbers : list_all (λ row. has_number row.0) verbs ≡ true
 all_have_numbers = refl
 
-padded_back : (word : Bytes) → length word ≡ 4 → four_bytes (from_four_bytes word) ≡ word
+padded_back : (word : Bytes) → length word ≡ 4 → padded_word (from_four_bytes word) ≡ word
 padded_back [] l = absurd (omega arith)
 padded_back (a ∷ []) l = absurd (omega arith)
 padded_back (a ∷ b ∷ []) l = absurd (omega arith)
@@ -77,13 +77,13 @@ module _ (word : Bytes) (long : length word ≡ 4) (small : (i : ℕ) → get_or
       → from_four_bytes word ≡ name
   named name has e =
       let parts = and_parts _ _ has in
-      let same : word ≡ four_bytes name =
+      let same : word ≡ padded_word name =
       sym (be_bytes_4 word number long small refl) ∙ ap (to_be_bytes w32) e
       ∙ (bytes_decides _ _).0 parts.0 in
       ap from_four_bytes same ∙ (bytes_decides _ _).0 parts.1
 
   numbered : (name : Bytes) → from_four_bytes word ≡ name → number ≡ word_number name
-  numbered name e = ap (from_be_bytes w32) (sym (padded_back word long) ∙ ap four_bytes e)
+  numbered name e = ap (from_be_bytes w32) (sym (padded_back word long) ∙ ap padded_word e)
 
   same_test : (name : Bytes) → has_number name ≡ true
       → (number == word_number name) ≡ bytes_eq (from_four_bytes word) name

@@ -62,15 +62,15 @@ offset text = let digits = without_leading_plus text in
     then Ok (Rest (digits_value 10 digits)) else Err InvalidCommand
 
 -- what the verbs with a value of their own type make of it
-abbrev pub typed_answer : Verb → Bytes → Outcome
-typed_answer verb.Stru v = chosen structures v
-typed_answer verb.Mode v = chosen modes v
-typed_answer verb.Prot v = chosen protections v
-typed_answer verb.Opts v = chosen options v
-typed_answer verb.Pbsz v = chosen buffer_sizes v
-typed_answer verb.Auth v = auth v
-typed_answer verb.Rest v = offset (utf8_lossy v)
-typed_answer _ v = Err InvalidCommand
+abbrev pub typed_outcome : Verb → Bytes → Outcome
+typed_outcome verb.Stru v = chosen structures v
+typed_outcome verb.Mode v = chosen modes v
+typed_outcome verb.Prot v = chosen protections v
+typed_outcome verb.Opts v = chosen options v
+typed_outcome verb.Pbsz v = chosen buffer_sizes v
+typed_outcome verb.Auth v = auth v
+typed_outcome verb.Rest v = offset (utf8_lossy v)
+typed_outcome _ v = Err InvalidCommand
 
 -- a text, or none where the value is empty; ill-formed UTF-8 is replaced
 abbrev pub optional_text : Bytes → Value
@@ -86,10 +86,10 @@ taken kinds.Text verb name v =
 taken kinds.OptionalText verb name v = command_by verb name (optional_text v)
 taken kinds.Listing verb name v =
     command_by verb name (maybe_text (unless_empty (path_of (utf8_lossy v))))
-taken kinds.Typed verb name v = typed_answer verb v
+taken kinds.Typed verb name v = typed_outcome verb v
 taken _ verb name v = Err InvalidCommand
 
 -- what a subcommand of SITE, in upper case, makes of the value after it
-abbrev pub subcommand_answer : Bytes → Bytes → Outcome
-subcommand_answer name = if bytes_eq name (codes "MD5") then taken kinds.Text verb.Md5 []
+abbrev pub subcommand_outcome : Bytes → Bytes → Outcome
+subcommand_outcome name = if bytes_eq name (codes "MD5") then taken kinds.Text verb.Md5 []
     else taken kinds.OptionalText verb.Site name

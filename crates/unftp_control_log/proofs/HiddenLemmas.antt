@@ -7,8 +7,8 @@ use Rattle.unftp_control_defs.specs.Bytes.{Bytes}
 use Rattle.unftp_control_defs.specs.ComputedValue.{value_of}
 use Rattle.unftp_control_defs.specs.Events.{Fault, FtpEvent, Command, Refused, event_for, event_of, exceeds, line_too_long}
 use Rattle.unftp_control_defs.specs.FtpCommand.{Outcome, FtpCommand, Acct, InvalidUtf8, Other, Pass, Site, unless_empty, verbs}
-use Rattle.unftp_control_defs.specs.Outcome.{outcome, site_answer, value_answer, word_answer}
-use Rattle.unftp_control_defs.specs.Rules.{row_of, subcommand_answer, taken}
+use Rattle.unftp_control_defs.specs.Outcome.{outcome, site_outcome, value_outcome, word_outcome}
+use Rattle.unftp_control_defs.specs.Rules.{row_of, subcommand_outcome, taken}
 use Rattle.unftp_control_defs.specs.declared.verb.Kind.TheVariants as kinds
 use Rattle.unftp_control_defs.specs.declared.verb.Verb.{Verb as Ruled}
 use Rattle.unftp_control_defs.specs.declared.verb.Verb.TheVariants as verbs_of
@@ -76,11 +76,11 @@ module _ (line : Bytes) (command : FtpCommand) (is : outcome line ≡ Ok command
   abbrev name : Bytes
   name = subcommand_of line
 
-  answered : word_answer verb (row_of verb verbs) (parameter_of line) ≡ Ok command
+  answered : word_outcome verb (row_of verb verbs) (parameter_of line) ≡ Ok command
   answered = after_utf8 (is_utf8 (verb_of line)) _ command is
 
   shown_as : (answer : Bytes → Outcome) (shown : Visible) → Shows answer shown
-      → (value : Option Bytes) → value_answer answer value ≡ Ok command
+      → (value : Option Bytes) → value_outcome answer value ≡ Ok command
       → visible_command command ≡ shown
   shown_as answer shown each None is = absurd (cc)
   shown_as answer shown each (Some v) is = each v command is
@@ -99,9 +99,9 @@ module _ (line : Bytes) (command : FtpCommand) (is : outcome line ≡ Ok command
       ∙ ap (λ b. cond b (hidden_site (listed_subcommand line)) (Verb word (Some asterisks))) other
 
   answered_as : (word : Bytes) → verb ≡ word
-      → word_answer word (row_of word verbs) (parameter_of line) ≡ Ok command
+      → word_outcome word (row_of word verbs) (parameter_of line) ≡ Ok command
   answered_as word same =
-      ap (λ w. word_answer w (row_of w verbs) (parameter_of line)) (sym same) ∙ answered
+      ap (λ w. word_outcome w (row_of w verbs) (parameter_of line)) (sym same) ∙ answered
 
   password : verb ≡ codes "PASS" → Hides
   password same = shown_as (taken kinds.Raw verbs_of.Pass []) _ shows_password
@@ -117,7 +117,7 @@ module _ (line : Bytes) (command : FtpCommand) (is : outcome line ≡ Ok command
   other : bytes_eq verb (codes "SITE") ≡ false → row_of verb verbs ≡ None → Hides
   other no_site none = shown_as (taken kinds.OptionalText verbs_of.Other verb) _ (shows_other verb)
       (value_of (parameter_of line))
-      (ap (λ row. word_answer verb row (parameter_of line)) (sym none) ∙ answered)
+      (ap (λ row. word_outcome verb row (parameter_of line)) (sym none) ∙ answered)
       ∙ by_test (is_listed verb) refl
     where
       by_test : (listed : Bool) → is_listed verb ≡ listed
@@ -129,7 +129,7 @@ module _ (line : Bytes) (command : FtpCommand) (is : outcome line ≡ Ok command
 
   -- SITE
   site_value : unwrap_or (row_of name site_words) false ≡ false
-      → (value : Option Bytes) → value_answer (subcommand_answer name) value ≡ Ok command
+      → (value : Option Bytes) → value_outcome (subcommand_outcome name) value ≡ Ok command
       → visible_command command
       ≡ hidden_site (cond (is_some (row_of name site_words)) (Some name) None)
   site_value hides = by_test (bytes_eq name (codes "MD5")) refl
@@ -142,7 +142,7 @@ module _ (line : Bytes) (command : FtpCommand) (is : outcome line ≡ Ok command
       by_row (Some false) h arguments = refl
 
       by_test : (md5 : Bool) → bytes_eq name (codes "MD5") ≡ md5 → (value : Option Bytes)
-          → value_answer (cond md5 (taken kinds.Text verbs_of.Md5 [])
+          → value_outcome (cond md5 (taken kinds.Text verbs_of.Md5 [])
           (taken kinds.OptionalText verbs_of.Site name)) value ≡ Ok command
           → visible_command command
           ≡ hidden_site (cond (is_some (row_of name site_words)) (Some name) None)
@@ -157,7 +157,7 @@ module _ (line : Bytes) (command : FtpCommand) (is : outcome line ≡ Ok command
       → Hides
   site is_site hides =
       let same = (bytes_decides verb (codes "SITE")).0 is_site in
-      let splits : site_answer (parameter_of line) ≡ Ok command =
+      let splits : site_outcome (parameter_of line) ≡ Ok command =
       answered_as (codes "SITE") same in
       let shown : listed_verb line ≡ Some (codes "SITE") =
       ap (λ w. cond (is_listed w) (Some w) None) same in

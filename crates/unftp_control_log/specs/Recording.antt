@@ -5,7 +5,7 @@ use Rattle.unftp_control_read.specs.ReplyDecoding.{HasError, content, no_bytes}
 use Rattle.unftp_control_read.specs.declared.errors.NextReplyError.{NextReplyError}
 use Rattle.unftp_control_read.specs.declared.errors.NextReplyError.TheVariants.{OutOfMemory}
 use Rattle.unftp_control_log.specs.Exchanges.{Entry, Read, lines_in, replies_in}
-use Rattle.unftp_control_log.specs.ToCome.{AreRead, HasNext, HasNoLine, HasNoReply, exchanges_to_come, lines_to_come, new_lines, replies_so_far, held_text}
+use Rattle.unftp_control_log.specs.ToCome.{AreRead, HasNext, HasNoLine, HasReplyPart, exchanges_to_come, lines_to_come, new_lines, replies_so_far, held_text}
 use Rattle.unftp_control_log.specs.declared.recorder.Exchange.{Exchange}
 use Rattle.unftp_control_log.specs.declared.recorder.Limits.{Limits}
 use Rattle.unftp_control_log.specs.declared.recorder.Recorder.{Recorder}
@@ -67,7 +67,7 @@ pub record IsRecorded (before : Recorder) (passed : Passed) (after : Recorder) :
 
 -- The next exchange has no final reply yet; or it has, and no complete line came that it is to.
 abbrev pub LacksNext : Bool → Recorder → Type 0
-LacksNext false recorder = HasNoReply recorder.given
+LacksNext false recorder = HasReplyPart recorder.given
 LacksNext true recorder = (recorder.sent.is_greeted ≡ true) × HasNoLine recorder.sent.decoder
 
 abbrev pub IsWaiting : Recorder → Type 0

@@ -46,9 +46,9 @@ pub record HasNoLine (pending : decoder.Pending) : Type 0 where
   pub held : pending.buffered ≡ kept_length pending.limit pending.bytes
 
 -- What the next exchange is to is taken, where there is a complete line.
-abbrev pub TakesLine : {E : Type 0} → SentLines → Result (Option (Option (Vec ℕ Global))) E
+abbrev pub TakesNextLine : {E : Type 0} → SentLines → Result (Option (Option (Vec ℕ Global))) E
     → SentLines → Type 0
-TakesLine before result after = MatchResult result
+TakesNextLine before result after = MatchResult result
     (λ next. MatchOption next
     (SameToCome before after × (after.is_greeted ≡ true) × HasNoLine after.decoder)
     (λ line. (more : Bytes)
@@ -87,6 +87,6 @@ pub record TakesReplies (before : Turn) (pending : PendingReplies) (after : Turn
   pub limit : left.limit ≡ pending.limit
 
 -- There is only a part of a reply, and no more is held.
-pub record HasNoReply (pending : PendingReplies) : Type 0 where
+pub record HasReplyPart (pending : PendingReplies) : Type 0 where
   pub part : IsShortPart pending.limit pending.bytes
   pub held : pending.buffered ≡ length pending.bytes

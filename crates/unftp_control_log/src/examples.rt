@@ -16,7 +16,7 @@ ghost use Rattle.unftp_control_serve.specs.Decoder.{no_bytes, pushed};
 ghost use Rattle.unftp_control_log.specs.ExchangeLine.{exchange_line, lines_text, replies_text, reply_text};
 ghost use Rattle.unftp_control_log.specs.Exchanges.{Entry, IsWholeExchange, all_asked, complete_exchanges, entries, log_lines, open_after, open_part};
 ghost use Rattle.unftp_control_log.specs.Recording.{IsBroken, IsNew, IsRecorded, IsUnanswered, IsWaiting, MeansError, TakesUnanswered, joined, one_entry, sent_piece};
-ghost use Rattle.unftp_control_log.specs.ToCome.{AreRead, HasNext, HasNoLine, HasNoReply, exchanges_from, exchanges_to_come, greeting_to_come, lines_to_come, new_lines, replies_so_far};
+ghost use Rattle.unftp_control_log.specs.ToCome.{AreRead, HasNext, HasNoLine, HasReplyPart, exchanges_from, exchanges_to_come, greeting_to_come, lines_to_come, new_lines, replies_so_far};
 ghost use Rattle.unftp_control_log.specs.declared.recorder.Limits.{Limits as RustLimits};
 ghost use Rattle.unftp_control_log.specs.declared.recorder.Recorder.{Recorder as RustRecorder};
 ghost use Rattle.unftp_control_read.specs.declared.errors.NextReplyError.TheVariants as NextReplyError;
@@ -229,9 +229,9 @@ pub fn exchanges_are_to_come()
     ensures too_long { (after : Bytes)
         → AreRead (Some 6) (codes "220 a\r\n") ((220, codes "a" ∷ []) ∷ []) after → ⊥ }
     ensures within { AreRead (Some 7) (codes "220 a\r\n") ((220, codes "a" ∷ []) ∷ []) [] }
-    ensures at_the_limit { (pending : PendingReplies) → HasNoReply pending
+    ensures at_the_limit { (pending : PendingReplies) → HasReplyPart pending
         → pending.limit ≡ Some 6 → length pending.bytes ≡ 6 → ⊥ }
-    ensures too_much_held { (pending : PendingReplies) → HasNoReply pending
+    ensures too_much_held { (pending : PendingReplies) → HasReplyPart pending
         → pending.bytes ≡ [] → pending.buffered ≡ 1 → ⊥ }
 {}
 

@@ -3,7 +3,7 @@ ghost use Rattle.std.specs.Prelude.{◌≡◌, ◌<◌, ◌≤◌, ◌+◌, ◌+
 ghost use Rattle.unftp_control_defs.specs.Bytes.{Bytes};
 ghost use Rattle.unftp_control_log.specs.LogLine.{logged};
 ghost use Rattle.unftp_control_serve.specs.ClientLines.{front_line};
-ghost use Rattle.unftp_control_log.specs.ToCome.{SameToCome, TakesLine, lines_to_come, new_lines};
+ghost use Rattle.unftp_control_log.specs.ToCome.{SameToCome, TakesNextLine, lines_to_come, new_lines};
 
 use crate::write_log_line;
 use std::alloc::{AllocError, Global};
@@ -48,7 +48,7 @@ impl SentLines {
     /// Takes what the next exchange is to: nothing, or a line as a log shows it. It is none where
     /// no line is complete. When out of memory, nothing is lost, and the next call goes on.
     pub(crate) fn next_line(&mut self) -> Result<Option<Option<Vec<u8>>>, AllocError>
-        ensures takes { TakesLine self.old result self.new }
+        ensures takes { TakesNextLine self.old result self.new }
         ensures limit { self.new.decoder.limit ≡ self.old.decoder.limit }
     {
         if !self.is_greeted {

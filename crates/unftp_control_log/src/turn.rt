@@ -4,7 +4,7 @@ ghost use Rattle.unftp_control_defs.specs.ReplyLimit.{within_limit};
 ghost use Rattle.unftp_control_defs.specs.ReplyReader.{HasFront};
 ghost use Rattle.unftp_control_defs.specs.Turns.{is_preliminary};
 ghost use Rattle.unftp_control_read.specs.ReplyDecoding.{HasError, content};
-ghost use Rattle.unftp_control_log.specs.ToCome.{HasNoReply, TakesReplies, replies_so_far};
+ghost use Rattle.unftp_control_log.specs.ToCome.{HasReplyPart, TakesReplies, replies_so_far};
 
 use std::alloc::Global;
 use std::mem;
@@ -61,7 +61,7 @@ impl Turn {
         ensures takes { TakesReplies self.old pending.old self.new pending.new }
         ensures done { result ≡ Ok true → self.new.is_complete ≡ true }
         ensures incomplete { result ≡ Ok false → self.new.is_complete ≡ false }
-        ensures none { result ≡ Ok false → HasNoReply pending.new }
+        ensures none { result ≡ Ok false → HasReplyPart pending.new }
         ensures err { IfErr result
             (HasError pending.new.limit pending.new.bytes) }
         ensures err_incomplete { IfErr result (λ _. self.new.is_complete ≡ false) }
@@ -81,7 +81,7 @@ impl Turn {
         ensures takes { TakesReplies self.old pending.old self.new pending.new }
         ensures fewer { result ≡ Ok true → length pending.new.bytes < length pending.old.bytes }
         ensures incomplete { result ≡ Ok false → self.new.is_complete ≡ false }
-        ensures none { result ≡ Ok false → HasNoReply pending.new }
+        ensures none { result ≡ Ok false → HasReplyPart pending.new }
         ensures err { IfErr result
             (HasError pending.new.limit pending.new.bytes) }
         ensures err_incomplete { IfErr result (λ _. self.new.is_complete ≡ false) }

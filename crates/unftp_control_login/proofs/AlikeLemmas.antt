@@ -12,7 +12,7 @@ use Rattle.unftp_control_defs.specs.Outcome.{outcome}
 use Rattle.unftp_control_defs.specs.Run.{SessionLaw, after, all_replies, at_each, last_state, replies, replies_to, run_of, turn_replies, state_after, text_for, text_of, turn}
 use Rattle.unftp_control_defs.proofs.LineEventLemmas.{events-after, events-canonical_line}
 use Rattle.unftp_control_defs.proofs.SoundLemmas.{IsTyped-raw}
-use Rattle.unftp_control_codecs.specs.Memory.{AnswerMayTakeMemory, MayTakeMemory}
+use Rattle.unftp_control_codecs.specs.Memory.{OutcomeMayTakeMemory, MayTakeMemory}
 use Rattle.unftp_control_serve.specs.Decoder.{FirstMayRunOut}
 use Rattle.unftp_control_serve.specs.Endings.{Cause, Finished, Write, Handler, LineMemory, ReplyMemory, EndsAt, HasAnswered, Unsent, whole_text}
 use Rattle.unftp_control_serve.specs.Writing.{Begins}
@@ -26,7 +26,7 @@ use Rattle.unftp_control_login.proofs.StagedLemmas.{AllAlike, Alike, alike-itsel
 use Rattle.unftp_control_login.proofs.StageLemmas.{Reason, reason, stage_after-reason, stage_after_all, lifted, turn_replies-lifted}
 
 -- Lines of passwords may take memory.
-pass-answer : (answer : Outcome) → IsTrue (is_pass (event_of answer)) → AnswerMayTakeMemory answer
+pass-answer : (answer : Outcome) → IsTrue (is_pass (event_of answer)) → OutcomeMayTakeMemory answer
 pass-answer (Ok (Pass password)) h = omega arith
 pass-answer (Ok command) h = absurd (false≢true h)
 pass-answer (Err refusal) h = absurd (false≢true h)

@@ -7,7 +7,7 @@ use Rattle.unftp_control_defs.specs.FtpReply.{FtpReply, CodeAndMsg, HasThreeDigi
 use Rattle.unftp_control_defs.specs.ReplyReader.{FrontReply}
 use Rattle.unftp_control_defs.specs.Turns.{is_preliminary}
 use Rattle.unftp_control_defs.proofs.EncodingLemmas.{FrontReply-encoded}
-use Rattle.unftp_control_proxy.specs.ProxyAnswers.{IsFinalReply, as_read, has_three_digits, is_answer, is_final, is_one_line, is_plain_reply}
+use Rattle.unftp_control_proxy.specs.ProxyAnswers.{IsFinalReply, as_read, has_three_digits, is_answer, is_final_reply, is_one_line, is_plain_reply}
 
 -- ---- the test says what is plain
 
@@ -55,7 +55,8 @@ test_from_plain (CodeAndMsg code text) h =
 test_from_plain (MultiLine code lines) h =
     rw (test_from_digits code h.0) (test_from_all lines h.1)
 
-pub answer_is : (reply : FtpReply) → is_final reply ≡ true → IsPlain reply → is_answer reply ≡ true
+pub answer_is : (reply : FtpReply) → is_final_reply reply ≡ true → IsPlain reply → is_answer reply
+    ≡ true
 answer_is reply final plain =
     let is = test_from_plain reply plain in λ i. final i && is i
 
@@ -79,11 +80,11 @@ pub read_as_one : (reply : FtpReply) → is_answer reply ≡ true → IsFinalRep
 read_as_one Nothing h = absurd (false≢true h)
 read_as_one (CodeAndMsg code text) h =
     let reply = CodeAndMsg code text in
-    let parts = and_parts (is_final reply) (is_plain_reply reply) h in
+    let parts = and_parts (is_final_reply reply) (is_plain_reply reply) h in
     (code, (text ∷ [], whole reply parts.1 refl), not-true (is_preliminary code) parts.0)
 read_as_one (MultiLine code lines) h =
     let reply = MultiLine code lines in
-    let parts = and_parts (is_final reply) (is_plain_reply reply) h in
+    let parts = and_parts (is_final_reply reply) (is_plain_reply reply) h in
     (code, (_, whole reply parts.1 refl), not-true (is_preliminary code) parts.0)
 
 -- what is read of it is final

@@ -25,7 +25,7 @@ use Rattle.unftp_control_client.specs.declared.dialogue.Dialogue.{Dialogue}
 use Rattle.unftp_control_client.proofs.ClientStepLemmas.{answered-after_final, answered_after, sent-after_final}
 use Rattle.unftp_control_proxy.specs.ProxyAnswers.{IsReplyOf}
 use Rattle.unftp_control_proxy.specs.ProxyCalls.{AnsweredBy, Fate, GivesAnswer, IsDecidable, IsLookedFor, IsWholeReply, PassesReply, ProxyState, ReplyBytes, SentAs, TakesReplyBytes, after_fate, greeting_owed, server_owes, waits}
-use Rattle.unftp_control_proxy.specs.Traffic.{IsSingle, IsTraffic, held_fate, nothing_passed, one_answer, one_line, one_reply}
+use Rattle.unftp_control_proxy.specs.Traffic.{IsSingle, IsTraffic, held_fate, no_traffic, one_answer, one_line, one_reply}
 use Rattle.unftp_control_proxy.proofs.AnswerLemmas.{read_is_final}
 
 -- ---- pieces, and calls in which nothing passes
@@ -38,7 +38,7 @@ module _ (before later : ProxyState) (dialogue : later.dialogue ≡ before.dialo
       → before.client.bytes ++ from_client ≡ later.client.bytes
       → before.server.bytes ++ from_server ≡ later.server.bytes
       → IsTraffic before
-      (record nothing_passed { from_client = from_client; from_server = from_server }) later
+      (record no_traffic { from_client = from_client; from_server = from_server }) later
   pieces from_client from_server client server = record {
     client = client;
     lines = tt;
@@ -54,7 +54,7 @@ module _ (before later : ProxyState) (dialogue : later.dialogue ≡ before.dialo
   }
 
 pub found_only : (before later : ProxyState) → IsLookedFor before later
-    → IsTraffic before nothing_passed later
+    → IsTraffic before no_traffic later
 found_only before later is = pieces before later
     (ap (λ (p : ProxyState). p.dialogue) is.same) (ap (λ (p : ProxyState). p.answer) is.same)
     (ap (λ (p : ProxyState). p.limits) is.same) is.limit [] []

@@ -12,7 +12,7 @@ use Rattle.unftp_control_client.specs.declared.dialogue.To.TheVariants.{Greeting
 use Rattle.unftp_control_serve.specs.ClientLines.{first_client_line, front_line}
 use Rattle.unftp_control_serve.specs.Decoder.{pushed}
 use Rattle.unftp_control_proxy.specs.ProxyCalls.{AnsweredBy, Fate, GivesAnswer, GivesNext, IsGiven, IsLookedFor, IsUnasked, PassesReply, ProxyState, ReplyBytes, SentAs, waits}
-use Rattle.unftp_control_proxy.specs.Traffic.{AreAsTheyCame, IsTraffic, client_lines, client_piece, client_replies, fates_in, fates_of, given_in, held_fate, joined, nothing_passed, one_answer, one_line, one_reply, passed_by_step, passed_in, sends_for, all_sent, server_piece}
+use Rattle.unftp_control_proxy.specs.Traffic.{AreAsTheyCame, IsTraffic, client_lines, client_piece, client_replies, fates_in, fates_of, given_in, held_fate, joined_traffic, no_traffic, one_answer, one_line, one_reply, passed_by_step, passed_in, sends_for, all_sent, server_piece}
 use Rattle.unftp_control_proxy.specs.Filtering.{AreFiltered, FilterLaw, IsAsked, filtered}
 use Rattle.unftp_control_proxy.specs.Relaying.{IsEnd, IsSettled, RelayState, Relays, RelaysInPart, after_written, new_relay}
 use Rattle.unftp_control_proxy.specs.declared.proxy.Limits.{Limits}
@@ -30,7 +30,7 @@ module _ {S : Type 0} (law : FilterLaw S) where
 
   pub relays_nothing : (x : RelayState S) → Relays law [] [] x x
   relays_nothing x = record {
-    traffic = nothing_passed;
+    traffic = no_traffic;
     passed = nothing x.proxy;
     client = refl;
     server = refl;
@@ -43,7 +43,7 @@ module _ {S : Type 0} (law : FilterLaw S) where
   pub relays_in_turn : {c s c' s' : Bytes} {x y z : RelayState S} → Relays law c s x y
       → Relays law c' s' y z → Relays law (c ++ c') (s ++ s') x z
   relays_in_turn {c} {s} {c'} {s'} {x} {y} {z} one two = record {
-    traffic = joined one.traffic two.traffic;
+    traffic = joined_traffic one.traffic two.traffic;
     passed = in_turn one.passed two.passed;
     client = λ i. one.client i ++ two.client i;
     server = λ i. one.server i ++ two.server i;
@@ -210,7 +210,7 @@ module _ {S : Type 0} (law : FilterLaw S) where
       → IsLookedFor x.proxy later → to_server ≡ x.to_server → s ≡ x.filter
       → Relays law [] [] x (record x { proxy = later; filter = s; to_server = to_server })
   relays_none x later s to_server is same state = record {
-    traffic = nothing_passed;
+    traffic = no_traffic;
     passed = found_only x.proxy later is;
     client = refl;
     server = refl;

@@ -16,7 +16,7 @@ use Rattle.unftp_control_client.specs.declared.dialogue.Dialogue.{Dialogue}
 use Rattle.unftp_control_client.specs.declared.dialogue.To.TheVariants.{Greeting}
 use Rattle.unftp_control_client.proofs.ForwardingLemmas.{each_complete, given-exchanges}
 use Rattle.unftp_control_proxy.specs.ProxyCalls.{AnsweredBy, Fate, ProxyState, SentAs, new_proxy}
-use Rattle.unftp_control_proxy.specs.Traffic.{AreAsTheyCame, ChangesNothing, DecidedLine, GivesOwn, GivesReply, IsDecidedLine, IsPassedReply, IsSingle, IsTraffic, KeepsLine, SendsLine, ProxyStep, Traffic, bytes_that_came, client_lines, client_replies, fates_in, fates_of, fate_by_step, forwarding_step, forwarding_steps, given_by_step, given_in, held_fate, joined, nothing_passed, passed_by_step, passed_in, all_sent, sent_for}
+use Rattle.unftp_control_proxy.specs.Traffic.{AreAsTheyCame, ChangesNothing, DecidedLine, GivesOwn, GivesReply, IsDecidedLine, IsPassedReply, IsSingle, IsTraffic, KeepsLine, SendsLine, ProxyStep, Traffic, bytes_that_came, client_lines, client_replies, fates_in, fates_of, fate_by_step, forwarding_step, forwarding_steps, given_by_step, given_in, held_fate, joined_traffic, no_traffic, passed_by_step, passed_in, all_sent, sent_for}
 use Rattle.unftp_control_proxy.specs.declared.proxy.Limits.{Limits}
 
 -- ---- one after the other
@@ -45,7 +45,7 @@ steps-in-turn [] later before middle after same more =
 steps-in-turn (step ∷ first) later before middle after (next, one, are) more =
     (next, one, steps-in-turn first later next middle after are more)
 
-pub nothing : (proxy : ProxyState) → IsTraffic proxy nothing_passed proxy
+pub nothing : (proxy : ProxyState) → IsTraffic proxy no_traffic proxy
 nothing proxy = record {
   client = append-nil proxy.client.bytes;
   lines = tt;
@@ -66,7 +66,7 @@ module _ {before middle later : ProxyState} {first second : Traffic}
       ≡ passed_in first.steps ++ passed_in second.steps
   passed_is = filter_map-append passed_by_step first.steps second.steps
 
-  pub in_turn : IsTraffic before (joined first second) later
+  pub in_turn : IsTraffic before (joined_traffic first second) later
   in_turn = record {
     client = taken_in_turn before.client.bytes first.from_client (concat (client_lines first.lines))
         middle.client.bytes second.from_client (concat (client_lines second.lines))

@@ -28,9 +28,9 @@ as_read reply = unwrap_or (reply_as_read reply) (0, [])
 -- ---- replies that may be answers
 
 -- a reply after which no other to the same line follows
-abbrev pub is_final : FtpReply → Bool
-is_final Nothing = false
-is_final reply = not (is_preliminary_reply reply)
+abbrev pub is_final_reply : FtpReply → Bool
+is_final_reply Nothing = false
+is_final_reply reply = not (is_preliminary_reply reply)
 
 -- no line feed is in the text
 abbrev pub is_one_line : Bytes → Bool
@@ -47,12 +47,12 @@ is_plain_reply (MultiLine code lines) = has_three_digits code && list_all is_one
 
 -- A line may be answered with it.
 abbrev pub is_answer : FtpReply → Bool
-is_answer reply = is_final reply && is_plain_reply reply
+is_answer reply = is_final_reply reply && is_plain_reply reply
 
 -- why no line is answered with this reply
 abbrev pub IsNoAnswer : FtpReply → SendError → Type 0
-IsNoAnswer reply send.NotFinal = is_final reply ≡ false
-IsNoAnswer reply send.NotPlain = (is_final reply ≡ true) × (is_plain_reply reply ≡ false)
+IsNoAnswer reply send.NotFinal = is_final_reply reply ≡ false
+IsNoAnswer reply send.NotPlain = (is_final_reply reply ≡ true) × (is_plain_reply reply ≡ false)
 IsNoAnswer reply _ = ⊥
 
 -- ---- the answers of a proxy

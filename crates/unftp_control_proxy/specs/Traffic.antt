@@ -37,8 +37,8 @@ pub record Traffic : Type 0 where
   pub to_client : Bytes
   pub to_server : Bytes
 
-abbrev pub nothing_passed : Traffic
-nothing_passed = record {
+abbrev pub no_traffic : Traffic
+no_traffic = record {
   from_client = [];
   from_server = [];
   lines = [];
@@ -48,8 +48,8 @@ nothing_passed = record {
 }
 
 -- first this, and then that
-abbrev pub joined : Traffic → Traffic → Traffic
-joined first later = record {
+abbrev pub joined_traffic : Traffic → Traffic → Traffic
+joined_traffic first later = record {
   from_client = first.from_client ++ later.from_client;
   from_server = first.from_server ++ later.from_server;
   lines = first.lines ++ later.lines;
@@ -145,26 +145,26 @@ client_replies steps = replies_given 0 0 (forwarding_steps steps)
 -- ---- one piece of either side, one line, one step
 
 abbrev pub client_piece : Bytes → Traffic
-client_piece piece = record nothing_passed { from_client = piece }
+client_piece piece = record no_traffic { from_client = piece }
 
 abbrev pub server_piece : Bytes → Traffic
-server_piece piece = record nothing_passed { from_server = piece }
+server_piece piece = record no_traffic { from_server = piece }
 
 abbrev pub one_line : Bytes → Fate → Traffic
-one_line line fate = record nothing_passed {
+one_line line fate = record no_traffic {
   lines = record { line = line; fate = fate } ∷ [];
   steps = sends_for fate;
   to_server = concat (sent_for fate);
 }
 
 abbrev pub one_reply : PassedReply → Traffic
-one_reply passed = record nothing_passed {
+one_reply passed = record no_traffic {
   steps = GivesReply passed ∷ [];
   to_client = passed.given.bytes;
 }
 
 abbrev pub one_answer : FtpReply → Traffic
-one_answer reply = record nothing_passed {
+one_answer reply = record no_traffic {
   steps = GivesOwn reply ∷ [];
   to_client = encoded reply;
 }

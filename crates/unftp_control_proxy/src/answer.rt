@@ -3,7 +3,7 @@ ghost use Rattle.std.specs.Prelude.{◌≡◌, ◌++◌, IfErr, IsOk, OnErr, OnO
 ghost use Rattle.unftp_control_defs.specs.FtpReply.{encoded};
 ghost use Rattle.unftp_control_defs.specs.Room.{LacksRoom};
 ghost use Rattle.unftp_control_message.specs.ReplyMeaning.{reply_of};
-ghost use Rattle.unftp_control_proxy.specs.ProxyAnswers.{IsNoAnswer, answer_reply, is_answer, is_final};
+ghost use Rattle.unftp_control_proxy.specs.ProxyAnswers.{IsNoAnswer, answer_reply, is_answer, is_final_reply};
 
 use crate::errors::SendError;
 use std::alloc::AllocError;
@@ -77,8 +77,8 @@ fn check_reply(reply: &Reply) -> Result<(), SendError>
 }
 
 /// Whether no other reply to the same line follows the reply.
-fn is_final(reply: &Reply) -> bool
-    ensures { result ≡ is_final (reply_of reply.now) }
+fn is_final_reply(reply: &Reply) -> bool
+    ensures { result ≡ is_final_reply (reply_of reply.now) }
 {
     match reply {
         Reply::None => false,

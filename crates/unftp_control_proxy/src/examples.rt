@@ -12,7 +12,7 @@ ghost use Rattle.unftp_control_read.specs.ReplyDecoding.{pending_replies};
 ghost use Rattle.unftp_control_write.specs.ClearLines.{is_clear};
 ghost use Rattle.unftp_control_client.specs.Dialogue.{after_command, after_reply, new_dialogue, awaits_tls, owes_reply};
 ghost use Rattle.unftp_control_client.specs.declared.dialogue.To.TheVariants.{Command, Greeting};
-ghost use Rattle.unftp_control_proxy.specs.ProxyAnswers.{IsFinalReply, is_answer, is_final, long_reply, refused_reply};
+ghost use Rattle.unftp_control_proxy.specs.ProxyAnswers.{IsFinalReply, is_answer, is_final_reply, long_reply, refused_reply};
 ghost use Rattle.unftp_control_serve.specs.ClientLines.{after_front_line, first_client_line, front_line, unless_too_long};
 ghost use Rattle.unftp_control_serve.specs.Decoder.{found_as, line_in, no_bytes, pushed, without_line};
 ghost use Rattle.unftp_control_serve.specs.declared.decoder.ClientLine.TheVariants as ClientLine;
@@ -88,9 +88,9 @@ pub fn answers_wait()
 
 /// Replies after which another to the same line follows, or none.
 pub fn replies_are_final()
-    ensures yes { is_final (CodeAndMsg 200 (codes "OK")) ≡ true }
-    ensures no { is_final (CodeAndMsg 199 (codes "OK")) ≡ false }
-    ensures none { is_final Nothing ≡ false }
+    ensures yes { is_final_reply (CodeAndMsg 200 (codes "OK")) ≡ true }
+    ensures no { is_final_reply (CodeAndMsg 199 (codes "OK")) ≡ false }
+    ensures none { is_final_reply Nothing ≡ false }
 {}
 
 /// A line is answered with one reply: no text has a line feed.

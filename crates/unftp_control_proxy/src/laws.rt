@@ -10,7 +10,7 @@ ghost use Rattle.unftp_control_client.specs.Dialogue.{commands_owed};
 ghost use Rattle.unftp_control_client.specs.Steps.{AreExchanges, is_final};
 ghost use Rattle.unftp_control_client.specs.declared.dialogue.To.TheVariants.{Greeting};
 ghost use Rattle.unftp_control_proxy.specs.ProxyCalls.{ProxyState, new_proxy, server_owes};
-ghost use Rattle.unftp_control_proxy.specs.Traffic.{ChangesNothing, DecidedLine, IsDecidedLine, IsPassedReply, IsTraffic, Traffic, bytes_that_came, client_lines, client_replies, fates_in, fates_of, given_in, held_fate, joined, nothing_passed, passed_in, all_sent};
+ghost use Rattle.unftp_control_proxy.specs.Traffic.{ChangesNothing, DecidedLine, IsDecidedLine, IsPassedReply, IsTraffic, Traffic, bytes_that_came, client_lines, client_replies, fates_in, fates_of, given_in, held_fate, joined_traffic, no_traffic, passed_in, all_sent};
 ghost use Rattle.unftp_control_proxy.specs.Filtering.{AreFiltered, filtered};
 ghost use Rattle.unftp_control_proxy.specs.Relaying.{IsSettled, RelayState, Relays, after_written, new_relay};
 ghost use Rattle.unftp_control_proxy.specs.declared.proxy.Limits.{Limits as RustLimits};
@@ -75,7 +75,7 @@ pub fn forwarding_all_changes_nothing()
         → IsTraffic before traffic later → ChangesNothing traffic
         → events None traffic.to_server ≡ events None (concat (client_lines traffic.lines)) }
     ensures in_turn { (first second : Traffic) → ChangesNothing first → ChangesNothing second
-        → ChangesNothing (joined first second) }
+        → ChangesNothing (joined_traffic first second) }
 {}
 
 /// Before a server that answers each line by a handler, after a greeting: through such a proxy the
@@ -92,10 +92,10 @@ pub fn served_as_without_a_proxy<H: Handler>()
 
 /// Nothing passes where no call is made, and what passes in one call after the other passes in all.
 pub fn traffic_is_joined()
-    ensures nothing { (proxy : ProxyState) → IsTraffic proxy nothing_passed proxy }
+    ensures nothing { (proxy : ProxyState) → IsTraffic proxy no_traffic proxy }
     ensures joined { (before middle later : ProxyState) (first second : Traffic)
         → IsTraffic before first middle → IsTraffic middle second later
-        → IsTraffic before (joined first second) later }
+        → IsTraffic before (joined_traffic first second) later }
 {}
 
 /// Where a filter decides the lines, by `filter_line`: what becomes of them, and so what the server

@@ -13,7 +13,7 @@ ghost use Rattle.unftp_control_proxy.specs.ProxyAnswers.{is_answer};
 ghost use Rattle.unftp_control_serve.specs.ClientLines.{front_line};
 ghost use Rattle.unftp_control_serve.specs.Decoder.{line_in, pushed};
 ghost use Rattle.unftp_control_proxy.specs.ProxyCalls.{AnsweredBy, GivesAnswer, IsDecidable, IsLookedFor, PassesReply, ProxyState, ReplyBytes, SentAs, after_fate};
-ghost use Rattle.unftp_control_proxy.specs.Traffic.{IsTraffic, client_piece, nothing_passed, one_answer, one_line, one_reply, server_piece};
+ghost use Rattle.unftp_control_proxy.specs.Traffic.{IsTraffic, client_piece, no_traffic, one_answer, one_line, one_reply, server_piece};
 
 /// What the contract of each call ensures says what passes in it; so with `traffic_is_joined` the
 /// laws of traffic are laws of all calls, in whatever order they are made.
@@ -25,7 +25,7 @@ pub fn calls_are_traffic()
         → later ≡ record before { server = pushed_reply before.server piece }
         → IsTraffic before (server_piece piece) later }
     ensures next_line { (before later : ProxyState) → IsLookedFor before later
-        → IsTraffic before nothing_passed later }
+        → IsTraffic before no_traffic later }
     ensures answered { (before later : ProxyState) (reply : FtpReply)
         → GivesAnswer before reply later → IsTraffic before (one_answer reply) later }
     ensures reply { (before later : ProxyState) (came given : ReplyBytes)

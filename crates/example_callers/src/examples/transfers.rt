@@ -5,8 +5,8 @@ ghost use Rattle.unftp_control_defs.specs.FtpCommand.{Abor, Noop, Quit, Rest, Ty
 ghost use Rattle.example_callers.specs.DataAnswers.{Opened, Took, Gave, Closed, OpenFailed, SendFailed, ReceiveFailed, CloseFailed, answer_to_close, answer_to_open, answer_to_receive, answer_to_send, received_in, sent_in};
 ghost use Rattle.example_callers.specs.CameTo.{CameTo, RanOut};
 ghost use Rattle.example_callers.specs.TransferLaws.{AtEvent, Retrieves, Stores, TransfersNothing, answers_for, state_after_event};
-ghost use Rattle.example_callers.specs.Transfers.{new_transfer, closing, left_in, transfer_outcome, receiving, sending, stored, transfers_law, with_opening};
-ghost use Rattle.example_callers.specs.TransferExamples.{abc, all_received, all_sent, codes_to, file_after, holding, later, replies_at, retr, stor};
+ghost use Rattle.example_callers.specs.Transfers.{new_transfers, closing, left_in, transfer_outcome, receiving, sending, stored, transfers_law, with_opening};
+ghost use Rattle.example_callers.specs.TransferExamples.{abc, all_received, all_data_sent, codes_to, file_after, holding, later, replies_at, retr, stor};
 ghost use Rattle.example_callers.specs.declared.transfers.transfer.Ending.TheVariants.{Complete, NotOpened, Aborted, NotClosed};
 ghost use Rattle.example_callers.specs.declared.transfers.transfer.Transfer.TheVariants.{Retrieve, Store};
 
@@ -20,14 +20,15 @@ pub fn answers_say_so()
         × (answer_to_receive {E = ℕ} abc (Err 0) ≡ ReceiveFailed) }
     ensures closed { (answer_to_close {T = ℕ} {E = ℕ} (Ok 0) ≡ Closed)
         × (answer_to_close {T = ℕ} {E = ℕ} (Err 0) ≡ CloseFailed) }
-    ensures all_sent { (sent_in all_sent ≡ abc) × (sent_in all_received ≡ []) }
-    ensures all_received { (received_in all_received ≡ codes "xyz") × (received_in all_sent ≡ []) }
+    ensures all_sent { (sent_in all_data_sent ≡ abc) × (sent_in all_received ≡ []) }
+    ensures all_received { (received_in all_received ≡ codes "xyz") ×
+        (received_in all_data_sent ≡ []) }
 {}
 
 /// A transfer uses the answers to its own calls: to open, to send what is left or to receive, and
 /// to close.
 pub fn calls_are_used()
-    ensures sent { transfer_outcome Retrieve abc all_sent
+    ensures sent { transfer_outcome Retrieve abc all_data_sent
         ≡ record { ending = Complete; used = 4; bytes = abc } }
     ensures received { transfer_outcome Store abc all_received
         ≡ record { ending = Complete; used = 5; bytes = codes "xyz" } }
@@ -45,7 +46,7 @@ pub fn calls_are_used()
 
 /// The code of each reply.
 pub fn transfers_are_answered()
-    ensures retrieved { codes_to all_sent retr ≡ 150 ∷ 226 ∷ [] }
+    ensures retrieved { codes_to all_data_sent retr ≡ 150 ∷ 226 ∷ [] }
     ensures not_opened { codes_to (OpenFailed ∷ []) retr ≡ 150 ∷ 425 ∷ [] }
     ensures not_sent { codes_to (Opened ∷ Took abc 2 ∷ SendFailed ∷ []) retr ≡ 150 ∷ 426 ∷ [] }
     ensures none_taken { codes_to (Opened ∷ Took abc 0 ∷ []) retr ≡ 150 ∷ 426 ∷ [] }
@@ -68,19 +69,20 @@ pub fn states_follow()
     ensures appended { file_after all_received 3 stor ≡ codes "abcxyz" }
     ensures endings { (stored 1 abc NotOpened (codes "x") ≡ abc)
         × (stored 1 abc Aborted (codes "x") ≡ abc) × (stored 1 abc NotClosed (codes "x") ≡ abc) }
-    ensures retrieved { state_after_event (later all_sent) (holding 0 abc) retr
+    ensures retrieved { state_after_event (later all_data_sent) (holding 0 abc) retr
         ≡ record (holding 0 abc) { used = 6 } }
     ensures rest { state_after_event [] (holding 0 abc) (Command (Rest 3)) ≡ holding 3 abc }
     ensures past_the_end { state_after_event [] (holding 1 abc) (Command (Rest 4))
         ≡ holding 1 abc }
-    ensures from_rest { answers_for (later (Opened ∷ Took (codes "c") 1 ∷ Closed ∷ all_sent))
+    ensures from_rest { answers_for (later (Opened ∷ Took (codes "c") 1 ∷ Closed ∷ all_data_sent))
         (holding 2 abc) retr ≡ Opened ∷ Took (codes "c") 1 ∷ Closed ∷ [] }
-    ensures one_transfer { (state_after_event (later all_sent) (holding 2 abc) retr).offset ≡ 0 }
+    ensures one_transfer { (state_after_event (later all_data_sent) (holding 2 abc) retr).offset
+        ≡ 0 }
     ensures quit { (transfers_law []).done
         (state_after_event [] (holding 0 abc) (Command Quit)) ≡ true }
     ensures goes_on { (transfers_law []).done
         (state_after_event [] (holding 0 abc) (Command Abor)) ≡ false }
-    ensures first { new_transfer (Opened ∷ Closed ∷ []) abc ≡ holding 0 abc }
+    ensures first { new_transfers (Opened ∷ Closed ∷ []) abc ≡ holding 0 abc }
     ensures left { (left_in (holding 0 abc) ≡ 0)
         × (left_in ((transfers_law []).next (holding 0 abc) retr) ≡ 1) }
     ensures faults { ((transfers_law []).may_fail (holding 0 abc) retr line_too_long → ⊥)
@@ -91,18 +93,20 @@ pub fn states_follow()
 
 /// What the laws of transfers let a session do, and what not.
 pub fn laws_refuse()
-    ensures retrieved { Retrieves (holding 0 abc) (holding 0 abc) (replies_at Complete) all_sent }
+    ensures retrieved { Retrieves (holding 0 abc) (holding 0 abc)
+        (replies_at Complete) all_data_sent }
     ensures other_bytes { Retrieves (holding 0 abc) (holding 0 abc) (replies_at Aborted)
         (Opened ∷ Took (codes "b") 1 ∷ []) → ⊥ }
     ensures a_part { Retrieves (holding 0 abc) (holding 0 abc) (replies_at Complete)
         (Opened ∷ Took abc 2 ∷ []) → ⊥ }
-    ensures changed { Retrieves (holding 0 abc) (holding 0 []) (replies_at Complete) all_sent → ⊥ }
+    ensures changed { Retrieves (holding 0 abc) (holding 0 []) (replies_at Complete) all_data_sent
+        → ⊥ }
     ensures stored { Stores (holding 3 abc) (holding 0 (codes "abcxyz")) (replies_at Complete)
         all_received }
     ensures not_stored { Stores (holding 0 abc) (holding 0 abc) (replies_at Complete)
         all_received → ⊥ }
     ensures emptied { Stores (holding 0 abc) (holding 0 []) (replies_at Aborted) [] → ⊥ }
-    ensures sent { Stores (holding 0 abc) (holding 0 abc) (replies_at Aborted) all_sent → ⊥ }
+    ensures sent { Stores (holding 0 abc) (holding 0 abc) (replies_at Aborted) all_data_sent → ⊥ }
     ensures nothing { TransfersNothing (holding 0 abc) (holding 3 abc) [] [] }
     ensures a_call { TransfersNothing (holding 0 abc) (holding 0 abc) [] (Opened ∷ []) → ⊥ }
     ensures one_used { TransfersNothing (holding 0 abc) (record (holding 0 abc) { used = 3 })

@@ -13,7 +13,7 @@ ghost use Rattle.unftp_control_serve.specs.EventMeaning.{event_meant};
 ghost use Rattle.unftp_control_serve.specs.Writing.{Begins};
 ghost use Rattle.example_callers.specs.DataAnswers.{DataAnswer};
 ghost use Rattle.example_callers.specs.CameTo.{RanOut};
-ghost use Rattle.example_callers.specs.Transfers.{new_transfer, transfer_failures, first_reply, follow_up, left_in, offset_after, state_of, transfer_of, transfers_law};
+ghost use Rattle.example_callers.specs.Transfers.{new_transfers, transfer_failures, first_reply, follow_up, left_in, offset_after, state_of, transfer_of, transfers_law};
 
 use crate::transfers::data::DataConnection;
 use crate::transfers::transfer::{Transfer, final_reply, retrieve, store};
@@ -44,7 +44,8 @@ impl<D: DataConnection> Transfers<D> {
     /// A session with this file, before the first event.
     pub fn new(connection: D, file: Vec<u8>) -> Transfers<D>
         ensures connection { result.connection ≡ connection }
-        ensures state { state_of D.answers result ≡ new_transfer (D.answers connection) file.items }
+        ensures state { state_of D.answers result ≡ new_transfers
+            (D.answers connection) file.items }
         ensures failures { transfer_failures result ≡ 0 }
     {
         Transfers {

@@ -8,8 +8,8 @@ ghost use Rattle.unftp_control_defs.specs.Canonical.{HasLine};
 ghost use Rattle.unftp_control_defs.specs.Lines.{IsLine};
 ghost use Rattle.unftp_control_defs.specs.Said.{KindSaysBack};
 ghost use Rattle.unftp_control_defs.specs.Verbs.{is_separator, parameter_of, upper, verb_of};
-ghost use Rattle.unftp_control_defs.specs.Outcome.{value_answer, outcome, parameter_answer, site_answer};
-ghost use Rattle.unftp_control_defs.specs.Rules.{subcommand_answer, taken};
+ghost use Rattle.unftp_control_defs.specs.Outcome.{value_outcome, outcome, parameter_outcome, site_outcome};
+ghost use Rattle.unftp_control_defs.specs.Rules.{subcommand_outcome, taken};
 ghost use Rattle.unftp_control_defs.specs.ComputedValue.{value_of};
 ghost use Rattle.unftp_control_defs.specs.declared.verb.Kind.TheVariants as kinds;
 ghost use Rattle.unftp_control_codecs.specs.Memory.{MayTakeMemory, OnOutOfMemory, ParsesTo, PartsTo, ReadsTo};
@@ -192,7 +192,7 @@ fn first_words(line: &[u8]) -> result::Result<Words<'_>, ParseErrorKind>
 #[inline(always)]
 #[tactic(auto, using(crate::proofs::OutcomeLemmas::outcomes))]
 fn site(parameter: &[u8]) -> result::Result<Words<'_>, ParseErrorKind>
-    ensures { BeginsWith (site_answer parameter.now) result }
+    ensures { BeginsWith (site_outcome parameter.now) result }
 {
     let (name, parameter) = split(parameter);
     Ok(subcommand(from_utf8(name)?, parameter))
@@ -202,7 +202,7 @@ fn site(parameter: &[u8]) -> result::Result<Words<'_>, ParseErrorKind>
 #[inline(always)]
 fn subcommand<'a>(name: &'a str, parameter: &'a [u8]) -> Words<'a>
     ensures { AreWords
-        (value_answer (subcommand_answer (upper name.now)) (value_of parameter.now)) result }
+        (value_outcome (subcommand_outcome (upper name.now)) (value_of parameter.now)) result }
 {
     if is_same_word(name.as_bytes(), b"MD5") {
         return Words {
@@ -227,7 +227,7 @@ fn subcommand<'a>(name: &'a str, parameter: &'a [u8]) -> Words<'a>
 fn value(kind: Kind, verb: Verb, parameter: &[u8]) -> result::Result<Value<'_>, ParseErrorKind>
     requires { kind ≢ kinds.Subcommand }
     ensures { (name : Bytes) → KindSaysBack kind verb name
-        → ReadsTo (parameter_answer kind verb name parameter.now) verb name result }
+        → ReadsTo (parameter_outcome kind verb name parameter.now) verb name result }
 {
     if matches!(kind, Kind::Ignored) {
         return Ok(Value::None);

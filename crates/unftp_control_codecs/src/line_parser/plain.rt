@@ -1,6 +1,6 @@
 //! The search of a short value for a CR or an LF, several bytes at a time.
 ghost use Rattle.std.specs.Prelude.{◌+◌, ◌≤◌, IsTrue, length};
-ghost use Rattle.unftp_control_codecs.specs.Values.{NoStop};
+ghost use Rattle.unftp_control_codecs.specs.Values.{LacksRunEnd};
 
 use std::simd::prelude::*;
 
@@ -15,7 +15,7 @@ const SHORT: usize = 64;
 #[inline(always)]
 fn four_are_plain(bytes: &[u8], from: usize) -> bool
     requires { from + 4 ≤ length bytes.now }
-    ensures { IsTrue result → NoStop bytes.now from (from + 4) }
+    ensures { IsTrue result → LacksRunEnd bytes.now from (from + 4) }
 {
     let four = u8x4::from_slice(&bytes[from..]);
     four.simd_eq(u8x4::splat(CR)).to_bitmask() == 0
@@ -26,7 +26,7 @@ fn four_are_plain(bytes: &[u8], from: usize) -> bool
 #[inline(always)]
 fn eight_are_plain(bytes: &[u8], from: usize) -> bool
     requires { from + 8 ≤ length bytes.now }
-    ensures { IsTrue result → NoStop bytes.now from (from + 8) }
+    ensures { IsTrue result → LacksRunEnd bytes.now from (from + 8) }
 {
     let eight = u8x8::from_slice(&bytes[from..]);
     eight.simd_eq(u8x8::splat(CR)).to_bitmask() == 0
@@ -37,7 +37,7 @@ fn eight_are_plain(bytes: &[u8], from: usize) -> bool
 #[inline(always)]
 fn sixteen_are_plain(bytes: &[u8], from: usize) -> bool
     requires { from + 16 ≤ length bytes.now }
-    ensures { IsTrue result → NoStop bytes.now from (from + 16) }
+    ensures { IsTrue result → LacksRunEnd bytes.now from (from + 16) }
 {
     let sixteen = u8x16::from_slice(&bytes[from..]);
     sixteen.simd_eq(u8x16::splat(CR)).to_bitmask() == 0
@@ -47,7 +47,7 @@ fn sixteen_are_plain(bytes: &[u8], from: usize) -> bool
 /// Whether up to three bytes have no CR and no LF.
 #[inline(always)]
 fn few_are_plain(bytes: &[u8]) -> bool
-    ensures { IsTrue result → NoStop bytes.now 0 (length bytes.now) }
+    ensures { IsTrue result → LacksRunEnd bytes.now 0 (length bytes.now) }
 {
     for &byte in bytes {
         if byte == CR || byte == LF {
@@ -61,7 +61,7 @@ fn few_are_plain(bytes: &[u8]) -> bool
 #[inline(always)]
 fn many_are_plain(bytes: &[u8]) -> bool
     requires { 16 ≤ length bytes.now }
-    ensures { IsTrue result → NoStop bytes.now 0 (length bytes.now) }
+    ensures { IsTrue result → LacksRunEnd bytes.now 0 (length bytes.now) }
 {
     let last = bytes.len() - 16;
     let mut at = 0usize;
@@ -77,7 +77,7 @@ fn many_are_plain(bytes: &[u8]) -> bool
 /// Whether a value is short, and has no CR and no LF.
 #[inline(always)]
 pub fn is_short_and_plain(value: &[u8]) -> bool
-    ensures { IsTrue result → NoStop value.now 0 (length value.now) }
+    ensures { IsTrue result → LacksRunEnd value.now 0 (length value.now) }
 {
     let len = value.len();
     if len >= 16 {

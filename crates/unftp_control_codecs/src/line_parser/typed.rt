@@ -1,7 +1,7 @@
 //! The commands whose parameter has a type of its own.
 ghost use Rattle.std.specs.Prelude.{[]};
 ghost use Rattle.std.specs.Str.Lossy.{utf8_lossy};
-ghost use Rattle.unftp_control_defs.specs.Rules.{auth, buffer_sizes, chosen, modes, offset, options, protections, structures, typed_answer};
+ghost use Rattle.unftp_control_defs.specs.Rules.{auth, buffer_sizes, chosen, modes, offset, options, protections, structures, typed_outcome};
 ghost use Rattle.unftp_control_defs.specs.declared.verb.Verb.TheVariants as spec;
 ghost use Rattle.unftp_control_codecs.specs.Memory.{ReadsTo};
 ghost use Rattle.unftp_control_message.specs.SentValues.{unescaped, sent_value};
@@ -17,7 +17,7 @@ type Typed<'a> = Result<Value<'a>, ParseErrorKind>;
 
 /// What the verb's own type makes of the value.
 pub fn typed<'a>(verb: Verb, sent: Sent<'_>) -> Typed<'a>
-    ensures { ReadsTo (typed_answer verb (sent_value sent.entry)) verb [] result }
+    ensures { ReadsTo (typed_outcome verb (sent_value sent.entry)) verb [] result }
 {
     match sent {
         Sent::Plain(bytes) => typed_bytes(verb, bytes),
@@ -28,7 +28,7 @@ pub fn typed<'a>(verb: Verb, sent: Sent<'_>) -> Typed<'a>
 /// What the verb's own type makes of a value that is sent so.
 #[tactic(auto, using(crate::proofs::TypedLemmas::same_answer))]
 fn typed_escaped<'a>(verb: Verb, sent: &[u8]) -> Typed<'a>
-    ensures { ReadsTo (typed_answer verb (unescaped sent.now)) verb [] result }
+    ensures { ReadsTo (typed_outcome verb (unescaped sent.now)) verb [] result }
 {
     match verb {
         Verb::Auth => auth_escaped(sent),
@@ -39,7 +39,7 @@ fn typed_escaped<'a>(verb: Verb, sent: &[u8]) -> Typed<'a>
 
 /// What the verb's own type makes of the bytes.
 fn typed_bytes<'a>(verb: Verb, value: &[u8]) -> Typed<'a>
-    ensures { ReadsTo (typed_answer verb value.now) verb [] result }
+    ensures { ReadsTo (typed_outcome verb value.now) verb [] result }
 {
     match verb {
         Verb::Auth => auth(value),

@@ -1,7 +1,7 @@
 use Rattle.std.proofs.Common.{◌≡◌, [], ap, subst, sym, ◌∙◌}
 use Rattle.std.specs.Str.{is_utf8}
 use Rattle.std.proofs.lemmas.Str.{is_utf8-from_IsUtf8}
-use Rattle.unftp_control_defs.specs.Outcome.{outcome, parameter_answer, site_answer}
+use Rattle.unftp_control_defs.specs.Outcome.{outcome, parameter_outcome, site_outcome}
 use Rattle.unftp_control_defs.specs.Verbs.{upper}
 use Rattle.unftp_control_defs.specs.declared.verb.Kind.TheVariants as kinds
 use Rattle.unftp_control_defs.specs.declared.verb.Verb.TheVariants as verb
@@ -17,7 +17,7 @@ returns-in_default c =
     record {
       read = outcome-other c.args.line.now (rw c.split.ensures.verb at (sym c.in_default.ensures))
           (ap is_utf8 (sym c.split.ensures.verb) ∙ is_utf8-from_IsUtf8 _ e.1)
-          ∙ (λ i. parameter_answer kinds.OptionalText verb.Other (upper (name i))
+          ∙ (λ i. parameter_outcome kinds.OptionalText verb.Other (upper (name i))
           (sym c.split.ensures.parameter i));
       fits = other_fits _;
       split = λ is. cc;
@@ -25,16 +25,16 @@ returns-in_default c =
 
 pub returns-in-Subcommand : goal.returns-in-Subcommand
 returns-in-Subcommand c =
-    let read : outcome c.args.line.now ≡ site_answer c.split.result.1.now =
+    let read : outcome c.args.line.now ≡ site_outcome c.split.result.1.now =
     outcome-named c.args.line.now (rw c.split.ensures.verb at (sym c.in-Some.ensures))
-    ∙ (λ i. parameter_answer ((sym c.kind.ensures ∙ c.in-Subcommand.is) i) c.in-Some.verb []
+    ∙ (λ i. parameter_outcome ((sym c.kind.ensures ∙ c.in-Subcommand.is) i) c.in-Some.verb []
     (sym c.split.ensures.parameter i)) in
     subst (λ answer. BeginsWith answer c.site.result) (sym read) c.site.ensures
 
 pub returns-in_default-kind : goal.returns-in_default-kind
 returns-in_default-kind c = record {
   read = outcome-named c.args.line.now (rw c.split.ensures.verb at (sym c.in-Some.ensures))
-      ∙ (λ i. parameter_answer (sym c.kind.ensures i) c.in-Some.verb []
+      ∙ (λ i. parameter_outcome (sym c.kind.ensures i) c.in-Some.verb []
       (sym c.split.ensures.parameter i));
   fits = rw c.kind.ensures (fits c.in-Some.verb);
   split = c.in_default-kind.not-Subcommand;

@@ -1,11 +1,11 @@
 use Rattle.std.proofs.Common.{◌-◌, ◌+◌, ◌≤◌}
-use Rattle.unftp_control_codecs.specs.Values.{NoStop}
+use Rattle.unftp_control_codecs.specs.Values.{LacksRunEnd}
 use Rattle.unftp_control_codecs.proofs.line_parser.plain.many_are_plain.Given as goal
 
 abbrev pub invariant-loop-at : goal.invariant-loop-at
 invariant-loop-at l = record {
   within : l.at ≤ l.last + 15;
-  none : NoStop l.bytes 0 l.at;
+  none : LacksRunEnd l.bytes 0 l.at;
 }
 
 abbrev pub decreases-loop-at : goal.decreases-loop-at
