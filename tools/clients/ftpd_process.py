@@ -4,6 +4,7 @@ import grp
 import os
 import pathlib
 import pwd
+import shutil
 import socket
 import ssl
 import stat
@@ -134,6 +135,8 @@ def check_user(program):
         users.write_text(f"anna:{hashed(program)}\n", encoding="ascii")
         os.chmod(place, 0o755)
         os.chown(folder, nobody.pw_uid, nobody.pw_gid)
+        # where that user may run it
+        copy = str(shutil.copy(program, f"{place}/ftpd"))
         words = [program, str(folder), "--users", str(users), "--listen", f"{LOW[0]}:{LOW[1]}", "--user", NOBODY]
         for more, group, further in [([], nobody.pw_gid, nobody.pw_gid), (["--group", "daemon"], daemon, daemon)]:
             with StartedServer([*words, *more], subprocess.DEVNULL) as server:
@@ -162,7 +165,7 @@ def check_user(program):
             (["--user", "root"], {"user": nobody.pw_uid, "group": nobody.pw_gid}, "only root can become root"),
         ]:
             for check in [[], ["--check"]]:
-                status, said = refusal(program, str(folder), "--listen", f"{HOST}:0", *more, *check, **identity)
+                status, said = refusal(copy, str(folder), "--listen", f"{HOST}:0", *more, *check, **identity)
                 wants(f"whether {said!r} says {words_said!r}", (status, words_said in said), (1, True))
-        with StartedServer(["setpriv", f"--reuid={nobody.pw_uid}", "--clear-groups", program, str(folder), "--listen", f"{HOST}:0", "--user", NOBODY]) as server:
+        with StartedServer(["setpriv", f"--reuid={nobody.pw_uid}", "--clear-groups", copy, str(folder), "--listen", f"{HOST}:0", "--user", NOBODY]) as server:
             wants("whether that user may name itself", server.port > 0, True)
