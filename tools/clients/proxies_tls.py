@@ -1,14 +1,16 @@
 """TLS of the programs ftp-proxy and ftp-record, toward clients and toward the server: checks of tools/clients/proxies."""
 
 import contextlib
-import pathlib
+import os
+import shutil
+import signal
 import socket
 import ssl
 import subprocess
 import tempfile
 
 from proxy_session import (GREETING, HOST, PATIENCE, QUIET, REFUSED, WAYS, Program, Session, begin, certificate, held, is_closed, is_reset, passive,
-                           receive, received_soon, until_logged, wants)
+                           program_of, receive, received_soon, until_logged, wants)
 
 FEATURES = b"211-Features:\r\n AUTH SSL\r\n\tAUTH TLS\r\n EPSV\r\n LPRT\r\n PBSZ\r\n PROT C;P\r\n UTF8\r\n211 End\r\n"
 
@@ -318,6 +320,21 @@ def moves(session, context, client, server, line):
                 end.shutdown(socket.SHUT_WR)
         session.server.sendall(b"226 Done\r\n")
         session.gets(b"226 Done\r\n")
+
+
+def check_other_authorities(proxy, _):
+    """At SIGHUP the authorities are read again, for sessions that begin then."""
+    with tempfile.TemporaryDirectory() as folder, tempfile.TemporaryDirectory() as strange:
+        files, others = authority(folder, "localhost"), authority(strange, "localhost")
+        with Protected([proxy, "--server-tls", "--server-ca", files["ca"]], (files["server"], files["server-key"])) as session:
+            shutil.copy(others["ca"], files["ca"])
+            os.kill(program_of(session), signal.SIGHUP)
+            until_logged(session, b"read again", 1)
+            with session.connect() as client:
+                with contextlib.suppress(OSError):  # the handshake fails
+                    session.accept().close()
+                wants("what a new client gets", receive(client), b"421 The server can't be reached under TLS\r\n")
+            session.passes(b"NOOP\r\n")
 
 
 def check_abort_protected(proxy, _):

@@ -1,7 +1,6 @@
 """One of the programs ftp-proxy and ftp-record between a client and a server that are both a script's."""
 
 import contextlib
-import os
 import pathlib
 import re
 import socket
