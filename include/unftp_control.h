@@ -458,8 +458,8 @@ enum unftp_result unftp_log_line(uint32_t number, const char *line, size_t line_
 /*
  * Writes what a log shows of an exchange, a line of a client and its replies, to the start of out,
  * without a line end, and *len is how many bytes it has: the line, `->`, and the replies with ` | `
- * between two of them. A reply is its code, and after a space its text, if any, escaped as by
- * unftp_log_line, with an escaped CR LF between two lines.
+ * between two of them. A reply is its code, as a number without zeros before it, and after a space
+ * its text, if any, escaped as by unftp_log_line, with an escaped CR LF between two lines.
  *
  *     shown        replies                                     the line of the log
  *     USER bob     331 Need password\r\n                       USER bob -> 331 Need password
