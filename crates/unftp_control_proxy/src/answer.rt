@@ -77,7 +77,7 @@ fn check_reply(reply: &Reply) -> Result<(), SendError>
 }
 
 /// Whether no other reply to the same line follows the reply.
-fn is_final_reply(reply: &Reply) -> bool
+fn is_final(reply: &Reply) -> bool
     ensures { result ≡ is_final_reply (reply_of reply.now) }
 {
     match reply {
