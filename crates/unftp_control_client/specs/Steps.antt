@@ -24,7 +24,7 @@ reply_to taken = record { to = taken.to; reply = content taken.reply }
 
 -- A client sends a line, receives a piece, or takes a reply.
 pub data ClientStep : Type 0 where
-  Sent : Bytes → ClientStep
+  SentLine : Bytes → ClientStep
   Received : Bytes → ClientStep
   Took : ReplyTo → ClientStep
 
