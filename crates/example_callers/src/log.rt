@@ -93,10 +93,12 @@ pub fn log_lines<R: Read, W: Write>(
     let mut entry = Vec::new(alloc);
     let mut room = [0u8; PIECE];
     for _turn in 0..u64::MAX {
-        let piece = match reader.read_piece(&mut room) {
-            Ok(Some(piece)) => piece,
-            Ok(None) => return Ok(()),
+        let read = match reader.read_piece(&mut room) {
+            Ok(read) => read,
             Err(error) => return Err(ServeError::Read(error)),
+        };
+        let Some(piece) = read else {
+            return Ok(());
         };
         decoder.push(piece)?;
         log_pending(&mut decoder, &mut entry, writer)?;

@@ -132,10 +132,12 @@ fn serve_lines<R: Read, W: Write, H: Session>(
     let mut engine = Engine::limited(alloc, limit);
     let mut room = [0u8; PIECE];
     for _turn in 0..u64::MAX {
-        let piece = match reader.read_piece(&mut room) {
-            Ok(Some(piece)) => piece,
-            Ok(None) => return Ok(served_by(&engine)),
+        let read = match reader.read_piece(&mut room) {
+            Ok(read) => read,
             Err(error) => return Err(ServeError::Read(error)),
+        };
+        let Some(piece) = read else {
+            return Ok(served_by(&engine));
         };
         engine.feed(piece, handler, writer)?;
         let is_over = engine.finished();

@@ -17,8 +17,9 @@ loop-turn-init g c = rw c.with_limit-decoder.ensures record {
   turns = omega arith;
 }
 
-pub returns-in-Ok-None-clause-ok : goal.returns-in-Ok-None-clause-ok
-returns-in-Ok-None-clause-ok g c = Logging-end c.loop-turn.invariant c.in-Ok-None.ensures
+pub returns-in_default-clause-ok : goal.returns-in_default-clause-ok
+returns-in_default-clause-ok g c =
+    Logging-end c.loop-turn.invariant (rw c.in_default.is at c.in-Ok.ensures)
 
 pub returns-in-Err-clause-err : goal.returns-in-Err-clause-err
 returns-in-Err-clause-err g c = Logging-failed c.loop-turn.invariant c.in-Err.ensures
@@ -29,14 +30,14 @@ returns-clause-err g c =
 
 pub returns-in_err-push-clause-err : goal.returns-in_err-push-clause-err
 returns-in_err-push-clause-err g c =
-    let read = c.in-Ok-Some.ensures in
+    let read = rw c.in-Some.is at c.in-Ok.ensures in
     let error = err_from_is_err_and c.from_residual.result c.from_residual.ensures.1 in
     rw (error.1, error.2)
     (Logging-stops c.loop-turn.invariant read _ (inl (refl, refl)))
 
 pub returns-in_err-log_pending-clause-err : goal.returns-in_err-log_pending-clause-err
 returns-in_err-log_pending-clause-err g c =
-    let read = c.in-Ok-Some.ensures in
+    let read = rw c.in-Some.is at c.in-Ok.ensures in
     let error = err_from_is_err_and c.from_residual-in_err-log_pending.result
     c.from_residual-in_err-log_pending.ensures.1 in
     rw (error.1, error.2)
@@ -45,7 +46,7 @@ returns-in_err-log_pending-clause-err g c =
 
 pub loop-turn-preserved : goal.loop-turn-preserved
 loop-turn-preserved g c =
-    let read = c.in-Ok-Some.ensures in
+    let read = rw c.in-Some.is at c.in-Ok.ensures in
     let ensured = c.in_ok-log_pending.ensures in
     Logging-next c.loop-turn.invariant read c.in_ok-push.ensures.ok ensured.ok ensured.pending
     ensured.limit

@@ -14,7 +14,7 @@ pub returns-in_err-feed-clause-err : goal.returns-in_err-feed-clause-err
 returns-in_err-feed-clause-err g c =
     let error = err_from_is_err_and c.from_residual.result c.from_residual.ensures.1 in
     let before = c.loop-turn.invariant.serving _ c.in_err-feed.ensures.heard in
-    rw (error.1, error.2) (Serving-failed _ before _ c.in-Ok-Some.ensures _ _
+    rw (error.1, error.2) (Serving-failed _ before _ (rw c.in-Some.is at c.in-Ok.ensures) _ _
     (c.in_err-feed.ensures.outcome before.running _ (Begins-refl _)))
 
 pub loop-turn-preserved : goal.loop-turn-preserved
@@ -26,7 +26,7 @@ loop-turn-preserved g c = record {
       let is = c.in_ok-feed.ensures.fed before.running w so in
       let on = ap (λ engine. engine.finished) (sym is) ∙ sym c.finished-is_over.ensures
       ∙ c.if-is_over.false in
-      rw is (Serving-next _ before _ c.in-Ok-Some.ensures _
+      rw is (Serving-next _ before _ (rw c.in-Some.is at c.in-Ok.ensures) _
       (c.in_ok-feed.ensures.outcome before.running w so) on);
 }
 
@@ -36,7 +36,7 @@ returns-then-is_over-clause-ok g c =
     let is = c.in_ok-feed.ensures.fed before.running _ (Begins-refl _) in
     let done = ap (λ engine. engine.finished) (sym is) ∙ sym c.finished-is_over.ensures
     ∙ c.if-is_over.true in
-    Serving-done _ before _ c.in-Ok-Some.ensures _
+    Serving-done _ before _ (rw c.in-Some.is at c.in-Ok.ensures) _
     (c.in_ok-feed.ensures.outcome before.running _ (Begins-refl _))
     (rw is at c.served_by-then-is_over.ensures) done
 
@@ -48,7 +48,7 @@ pub returns-in-Err-clause-err : goal.returns-in-Err-clause-err
 returns-in-Err-clause-err g c =
     Serving-read_failed _ (c.loop-turn.invariant.serving _ (Begins-refl _)) c.in-Err.ensures
 
-pub returns-in-Ok-None-clause-ok : goal.returns-in-Ok-None-clause-ok
-returns-in-Ok-None-clause-ok g c =
+pub returns-in_default-clause-ok : goal.returns-in_default-clause-ok
+returns-in_default-clause-ok g c =
     Serving-all _ (c.loop-turn.invariant.serving _ (Begins-refl _)) c.served_by.ensures
-    c.in-Ok-None.ensures
+    (rw c.in_default.is at c.in-Ok.ensures)
