@@ -48,10 +48,12 @@ def check_implicit(program):
             third = Control(context.wrap_socket(socket.create_connection((HOST, server.ports[1]), PATIENCE)))
             with third:
                 wants("what one too many gets", third.reply()[0], 421)
-        with begun(context, (HOST, server.ports[1])) as control:
-            command = ["curl", "-s", "--insecure", "--tls-max", "1.2", f"ftps://{HOST}:{server.ports[1]}/file"]
-            found = subprocess.run(command, capture_output=True, timeout=PATIENCE, check=False)
-            wants("what curl gets", (found.returncode, found.stdout), (0, b"content"))
+    # a server of its own, since that one may still count what was closed
+    with Server(program, *certificate(), "--implicit-tls", f"{HOST}:0") as server:
+        (server.folder / "file").write_bytes(b"content")
+        command = ["curl", "-s", "--insecure", "--tls-max", "1.2", f"ftps://{HOST}:{server.ports[1]}/file"]
+        found = subprocess.run(command, capture_output=True, timeout=PATIENCE, check=False)
+        wants("what curl gets", (found.returncode, found.stdout), (0, b"content"))
     with subprocess.Popen([program, "/", "--implicit-tls", f"{HOST}:0", *certificate()], stdout=subprocess.PIPE, stderr=subprocess.DEVNULL) as process:
         wants("how many ports it prints", len(process.stdout.readline().split()), 1)
         process.terminate()

@@ -6,6 +6,7 @@ import contextlib
 import ftplib
 import hashlib
 import io
+import multiprocessing
 import random
 import re
 import signal
@@ -35,6 +36,8 @@ AT_ONCE = 20
 BUFFER = 1 << 20
 # how many lines are sent before their replies are read
 PIPELINED = 500
+# how many sessions get small files at once
+TOGETHER = 4
 # the replies that are as good as this one
 BEGINNINGS = {b"150": [b"125"], b"331": [b"230"]}
 
@@ -211,8 +214,32 @@ class Speed:
     def pipelined(self, turns=40):
         return self.timed(lambda session: [session.noops(PIPELINED) for _ in range(turns)], turns * PIPELINED)
 
+    def get_small(self, session, count):
+        for _ in range(count):
+            wants("the size", session.get("small"), 1000)
+
     def small_files(self, count=300):
-        return self.timed(lambda session: [wants("the size", session.get("small"), 1000) for _ in range(count)], count)
+        return self.timed(lambda session: self.get_small(session, count), count)
+
+    def client_of_several(self, barrier, count):
+        with Session(self.account) as session:
+            session.command("TYPE I", b"200")
+            barrier.wait(LIMIT)
+            self.get_small(session, count)
+
+    def small_files_together(self, count=300):
+        """Each session is a process, so that the clients don't wait for each other."""
+        forked = multiprocessing.get_context("fork")
+        barrier = forked.Barrier(TOGETHER + 1)
+        clients = [forked.Process(target=self.client_of_several, args=(barrier, count)) for _ in range(TOGETHER)]
+        for client in clients:
+            client.start()
+        barrier.wait(LIMIT)
+        begun = time.monotonic()
+        for client in clients:
+            client.join(LIMIT)
+        wants("the ends of the clients", [client.exitcode for client in clients], [0] * TOGETHER)
+        return TOGETHER * count / (time.monotonic() - begun)
 
     def sessions(self, count=100):
         begun = time.monotonic()
@@ -227,6 +254,7 @@ MEASURES = {
     "NOOPs a second": Speed.noops,
     f"NOOPs a second, {PIPELINED} at once": Speed.pipelined,
     "files of 1 kB a second": Speed.small_files,
+    f"files of 1 kB a second, in {TOGETHER} sessions": Speed.small_files_together,
     "sessions a second": Speed.sessions,
 }
 
