@@ -2,7 +2,7 @@
 use Rattle.std.specs.Prelude.{Bool, false, ℕ, codes}
 use Rattle.unftp_control.specs.Endings.{Snapshot}
 use Rattle.unftp_control.specs.Writing.{appended_output}
-use Rattle.example_callers.specs.Sessions.{snapshot}
+use Rattle.unftp_control.specs.SessionState.{snapshot}
 
 -- its handler at the start of a session, after so many failures; the writer holds one byte
 abbrev pub before_session : ℕ → Snapshot Bool

@@ -5,13 +5,10 @@ use Rattle.unftp_control.specs.Endings.{Snapshot}
 use Rattle.unftp_control.specs.Input.{InputState}
 use Rattle.unftp_control.specs.Run.{SessionLaw}
 use Rattle.unftp_control.specs.Service.{AnsweredAll, ServeEnded}
+use Rattle.unftp_control.specs.SessionState.{snapshot}
 use Rattle.unftp_control.specs.Writing.{OutputState}
 use Rattle.unftp_control.specs.declared.serve.ServeError.{ServeError}
 use Rattle.unftp_control.specs.declared.serve.Served.{Served}
-
--- a handler in this state, which has failed so often, and this output
-abbrev pub snapshot : {S : Type 0} → S → ℕ → OutputState → Snapshot S
-snapshot state failures output = record { state = state; failures = failures; output = output }
 
 -- an output that was not used, over a writer with these written bytes
 abbrev pub unused_output : Option Bytes → OutputState

@@ -9,7 +9,7 @@ use Rattle.unftp_control.specs.Input.{InputState, HasRead}
 use Rattle.unftp_control.specs.Service.{AnsweredAll}
 use Rattle.unftp_control.specs.Writing.{HasWritten, OutputState}
 use Rattle.unftp_control.specs.declared.serve.Served.{Served}
-use Rattle.example_callers.specs.Sessions.{snapshot}
+use Rattle.unftp_control.specs.SessionState.{snapshot}
 use Rattle.unftp_control.specs.declared.commands.AuthParam.TheVariants.{Tls}
 
 abbrev pub is_auth_tls : FtpEvent → Bool

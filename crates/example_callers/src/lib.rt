@@ -13,7 +13,6 @@ pub mod handler;
 pub mod lines;
 pub mod log;
 pub mod member_file;
-pub mod members;
 pub mod no_files;
 pub mod pieces;
 pub mod proxy;

@@ -1,6 +1,6 @@
 //! A connection whose commands come under TLS, after AUTH in clear text (RFC 4217, section 4).
 ghost use Rattle.std.specs.Prelude.{◌≡◌, ℕ, Bool, Some, false, IfErr, IfOk};
-ghost use Rattle.example_callers.specs.Sessions.{snapshot};
+ghost use Rattle.unftp_control.specs.SessionState.{snapshot};
 ghost use Rattle.example_callers.specs.UntilTls.{BeginsTls, LeavesStream, is_auth_tls, until_tls};
 ghost use Rattle.unftp_control.specs.EventMeaning.{event_meant};
 ghost use Rattle.unftp_control.specs.Input.{input_state_of};
