@@ -2,16 +2,17 @@
 ghost use Rattle.std.specs.Prelude.{◌≡◌, ◌+◌, ◌≤◌, ◌++◌, length, drop, IfErr, OnErr, OnOk, codes, if◌then◌else◌};
 ghost use Rattle.std.specs.Vec.{vec_len};
 ghost use Rattle.example_callers.specs.NextNoop.{IsNextNoop};
-ghost use Rattle.unftp_control.specs.Decoding.{Decoded, Decodes};
-ghost use Rattle.unftp_control.specs.ErrorMeaning.{fault_of};
-ghost use Rattle.unftp_control.specs.Events.{out_of_memory};
-ghost use Rattle.unftp_control.specs.FtpReply.{CodeAndMsg, encoded};
+ghost use Rattle.unftp_control_codecs.specs.Decoding.{Decoded, Decodes};
+ghost use Rattle.unftp_control_message.specs.ErrorMeaning.{fault_of};
+ghost use Rattle.unftp_control_defs.specs.Events.{out_of_memory};
+ghost use Rattle.unftp_control_defs.specs.FtpReply.{CodeAndMsg, encoded};
 
 use std::alloc::Global;
-use unftp_control::codecs::FtpCodec;
-use unftp_control::command::{Command, same_commands};
-use unftp_control::error::{ControlChanError, ControlChanErrorKind};
-use unftp_control::reply::{Reply, ReplyCode};
+use unftp_control::command::same_commands;
+use unftp_control_codecs::FtpCodec;
+use unftp_control_message::Command;
+use unftp_control_message::reply::error::{ControlChanError, ControlChanErrorKind};
+use unftp_control_message::reply::{Reply, ReplyCode};
 
 /// Whether the line that the codec returned is NOOP: `None` while no line is complete.
 fn is_noop(

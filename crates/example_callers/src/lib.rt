@@ -17,6 +17,7 @@ pub mod no_files;
 pub mod pieces;
 pub mod proxy;
 pub mod relay;
+pub mod restarting;
 pub mod serving;
 pub mod transfers;
 pub mod upgrading;

@@ -2,19 +2,19 @@
 ghost use Rattle.std.specs.Prelude.{ℕ, List, IfErr, IfOk, OnOk, Some};
 ghost use Rattle.example_callers.specs.DataAnswers.{DataAnswer};
 ghost use Rattle.example_callers.specs.Transfers.{TransferState, new_transfers, transfers_law};
-ghost use Rattle.unftp_control.specs.Bytes.{Bytes};
-ghost use Rattle.unftp_control.specs.Gate.{Gated, gated_law};
-ghost use Rattle.unftp_control.specs.Input.{HasRead, input_state_of};
-ghost use Rattle.unftp_control.specs.Promises.{MembersAlone, guarded};
-ghost use Rattle.unftp_control.specs.Service.{ServeEnded, Serves};
-ghost use Rattle.unftp_control.specs.SessionState.{snapshot};
-ghost use Rattle.unftp_control.specs.Writing.{HasWritten, output_state_of};
+ghost use Rattle.unftp_control_defs.specs.Bytes.{Bytes};
+ghost use Rattle.unftp_control_login.specs.Gate.{Gated, gated_law};
+ghost use Rattle.unftp_control_defs.specs.Input.{HasRead, input_state_of};
+ghost use Rattle.unftp_control_login.specs.Promises.{MembersAlone, guarded};
+ghost use Rattle.unftp_control_serve.specs.Service.{ServeEnded, Serves};
+ghost use Rattle.unftp_control_login.specs.SessionState.{snapshot};
+ghost use Rattle.unftp_control_serve.specs.Writing.{HasWritten, output_state_of};
 
 use crate::transfers::{DataConnection, Transfers, laws};
 use std::alloc::Global;
 use std::io::{Read, Write};
-use unftp_control::login::{Accounts, serve_members};
-use unftp_control::serve::{Input, Output, ServeError, Served};
+use unftp_control_login::{Accounts, serve_members};
+use unftp_control_serve::{Input, Output, ServeError, Served};
 
 /// The most bytes of a line, its line feed counted.
 const LINE_LIMIT: usize = 4096;
