@@ -1,4 +1,4 @@
--- What is made of an answer of `decode` where only NOOP is known.
+-- What is made of what `decode` returns, where only NOOP is known.
 use Rattle.std.specs.Prelude.{◌≡◌, ◌≢◌, ◌⊎◌, ◌↔◌, Bool, false, IsTrue, Option, Some, None, Result, Ok, Err}
 use Rattle.unftp_control_message.specs.CommandMeaning.{command_of}
 use Rattle.unftp_control_codecs.specs.Decoding.{Decoded}

@@ -16,11 +16,11 @@ use unftp_control_message::reply::{Reply, ReplyCode};
 
 /// Whether the line that the codec returned is NOOP: `None` while no line is complete.
 fn is_noop(
-    answer: Result<Option<Command>, ControlChanError>,
+    decoded: Result<Option<Command>, ControlChanError>,
 ) -> Result<Option<bool>, ControlChanError>
-    ensures { IsNextNoop answer result }
+    ensures { IsNextNoop decoded result }
 {
-    match answer {
+    match decoded {
         Ok(None) => Ok(None),
         Ok(Some(command)) => {
             // a law, for the proof: commands are equal where they mean the same
@@ -44,9 +44,9 @@ pub fn next_is_noop(
     buf: &mut Vec<u8>,
 ) -> Result<Option<bool>, ControlChanError>
     requires { codec.old.place ≤ vec_len buf.old }
-    ensures next { (answer : Decoded)
-        × Decodes codec.old codec.new buf.old.items buf.new.items answer
-        × IsNextNoop answer result }
+    ensures next { (decoded : Decoded)
+        × Decodes codec.old codec.new buf.old.items buf.new.items decoded
+        × IsNextNoop decoded result }
     ensures within { codec.new.place ≤ vec_len buf.new }
 {
     is_noop(codec.decode(alloc, buf))
@@ -60,13 +60,13 @@ pub fn first_is_noop(
     bytes: &[u8],
 ) -> (usize, Result<Option<bool>, ControlChanError>)
     requires { codec.old.place ≤ length bytes.now }
-    ensures first { (answer : Decoded)
-        × Decodes codec.old codec.new bytes.now (drop result.0 bytes.now) answer
-        × IsNextNoop answer result.1 }
+    ensures first { (decoded : Decoded)
+        × Decodes codec.old codec.new bytes.now (drop result.0 bytes.now) decoded
+        × IsNextNoop decoded result.1 }
     ensures within { result.0 + codec.new.place ≤ length bytes.now }
 {
-    let (taken, answer) = codec.decode_slice(alloc, bytes);
-    (taken, is_noop(answer))
+    let (taken, decoded) = codec.decode_slice(alloc, bytes);
+    (taken, is_noop(decoded))
 }
 
 /// Appends the reply to a line.
