@@ -15,16 +15,16 @@ use std::alloc::Global;
 use std::io::{Read, Write};
 use unftp_control_serve::{Input, Output, ServeError, Served, Session, serve_with_limit};
 
-/// Serves a connection behind a login: what needs one reaches the handler only after a name and a
-/// password that the accounts accept (RFC 959, section 4.1.1). The handler is any `Session`, and is
-/// dropped with the accounts at the end.
+/// Serves a connection behind a login (RFC 959, section 4.1.1): `serve_with_limit` with a `Gate`
+/// before the handler, which is any `Session`. What needs a login reaches the handler only after a
+/// name and a password that the accounts accept. Accounts and handler are dropped at the end.
 ///
-/// A line may have `line_limit` bytes, its line feed counted, and a longer one gets one refusal. Of
-/// the logins `failed_logins` may fail, and the last of them ends the session with 421. Both have
-/// to be at least 1.
+/// A line may have `line_limit` bytes, its line feed counted, and a longer one gets one refusal. As
+/// many logins as `failed_logins` may fail: the last of them is answered 421, and ends the session.
+/// Both limits have to be at least 1.
 ///
-/// It reads, writes and returns what `serve_with_limit` does with a `Gate` before the handler, at
-/// `Ok` and at each error.
+/// What it returns and leaves of the streams is as for `serve_with_limit`, at `Ok` and at each
+/// error. `Handler` is an error of the handler, or out of memory for a reply of the gate's own.
 pub fn serve_members<R: Read, W: Write, A: Accounts + Drop, H: Session + Drop>(
     alloc: Global,
     line_limit: usize,
