@@ -250,5 +250,6 @@ pub fn sessions_are_seen_so()
     ensures same { (failures : ℕ)
         → snapshot_with (λ s. s) (λ s. s) (λ output. output) failures (appended_output [])
         ≡ snapshot failures failures (appended_output []) }
-    ensures failed_once { snapshot 3 0 (appended_output []) ≡ snapshot 3 1 (appended_output []) → ⊥ }
+    ensures failed_once { snapshot {S = ℕ} 3 0 (appended_output []) ≡ snapshot 3 1 (appended_output [])
+        → ⊥ }
 {}

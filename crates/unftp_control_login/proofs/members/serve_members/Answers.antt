@@ -26,7 +26,7 @@ returns g c =
       gate.failures,
     ) at (both served.ensures.serves served.ensures.err) in
     record {
-      serves = (_, _, _, ends.0);
+      serves = (heard, _, _, ends.0);
       members = λ sends. IfOk-weaker served.result _ _
           (λ served serves. (
             serves.read,
@@ -38,5 +38,5 @@ returns g c =
                 (Some c.args.failed_logins) serves.read,
           )) ends.0;
       bound = search rules;
-      err = (_, _, _, ends.1);
+      err = (heard, _, _, ends.1);
     }
