@@ -10,10 +10,9 @@ ghost use Rattle.unftp_control_defs.specs.Run.{as_session};
 
 use std::alloc::Global;
 use std::io::{Read, Write};
-use unftp_control_message::AuthParam;
-use unftp_control_message::Command;
 use unftp_control_message::reply::error::ControlChanError;
 use unftp_control_message::reply::{Reply, ReplyCode};
+use unftp_control_message::{AuthParam, Command};
 use unftp_control_serve::{Count, Event, Handler, Input, Output, ServeError, serve_with_limit};
 
 /// Asks for AUTH TLS, and is done once it has answered it.

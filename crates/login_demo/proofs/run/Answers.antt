@@ -5,7 +5,7 @@ pub returns-clause-serves : goal.returns-clause-serves
 returns-clause-serves g c =
     let said = rw (c.new.ensures.session, c.new.ensures.failures)
     at c.serve_members.ensures.serves in
-    (_, _, said.1.1.1)
+    (_, _, said.3)
 
 pub returns-clause-members : goal.returns-clause-members
 returns-clause-members g c =
@@ -14,4 +14,4 @@ returns-clause-members g c =
 pub returns-clause-err : goal.returns-clause-err
 returns-clause-err g c =
     let said = rw (c.new.ensures.session, c.new.ensures.failures) at c.serve_members.ensures.err in
-    (_, _, said.1.1.1)
+    (_, _, said.3)
