@@ -1,17 +1,17 @@
 -- What callers make of the answers of the library.
 use Rattle.std.proofs.Common.{◌≡◌, ℕ, Bool, true, false, ◌++◌, ◌==◌, ◌&&◌, Option, Some, ◌∙◌, Ok, refl, sym, ap, subst, eqb-true}
 use Rattle.std.specs.List.{concat}
-use Rattle.unftp_control.specs.Dialogue.{agrees, is_place, next_to}
-use Rattle.unftp_control.specs.Exchange.{IsNext, MayBeginTls}
-use Rattle.unftp_control.specs.Input.{InputState}
-use Rattle.unftp_control.specs.Reading.{contents}
-use Rattle.unftp_control.specs.Receiving.{Receives}
-use Rattle.unftp_control.specs.TakingSteps.{TakesReply}
-use Rattle.unftp_control.specs.declared.client.Client.{Client}
-use Rattle.unftp_control.specs.declared.client.ClientReply.{ClientReply}
-use Rattle.unftp_control.specs.declared.client.To.{To}
-use Rattle.unftp_control.specs.declared.client.To.TheVariants.{Command}
-use Rattle.unftp_control.specs.declared.read.ReceiveError.{ReceiveError}
+use Rattle.unftp_control_client.specs.Dialogue.{agrees, is_place, next_to}
+use Rattle.unftp_control_client.specs.Exchange.{IsNext, MayBeginTls}
+use Rattle.unftp_control_defs.specs.Input.{InputState}
+use Rattle.unftp_control_read.specs.Reading.{contents}
+use Rattle.unftp_control_read.specs.Receiving.{Receives}
+use Rattle.unftp_control_defs.specs.TakingSteps.{TakesReply}
+use Rattle.unftp_control_client.specs.declared.Client.{Client}
+use Rattle.unftp_control_client.specs.declared.dialogue.ClientReply.{ClientReply}
+use Rattle.unftp_control_client.specs.declared.dialogue.To.{To}
+use Rattle.unftp_control_client.specs.declared.dialogue.To.TheVariants.{Command}
+use Rattle.unftp_control_read.specs.declared.errors.ReceiveError.{ReceiveError}
 use Rattle.example_callers.specs.NextCode.{ReadsAgreement}
 
 -- two facts, so that a tactic rewrites both

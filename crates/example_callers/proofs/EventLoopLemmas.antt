@@ -1,10 +1,10 @@
 -- One turn of an event loop.
 use Rattle.std.proofs.Common.{◌≡◌, ◌-◌, ◌++◌, flat_map, inl, inr, length, drop, refl, ap, arith, ◌∙◌}
-use Rattle.unftp_control.specs.Bytes.{Bytes}
-use Rattle.unftp_control.specs.Decoder.{MayRunOut, Pending, StaysPending, TakesLine, kept_bytes}
-use Rattle.unftp_control.specs.Events.{FtpEvent}
-use Rattle.unftp_control.specs.FtpReply.{encoded}
-use Rattle.unftp_control.proofs.ClientLineLemmas.{MayRunOut-taken}
+use Rattle.unftp_control_defs.specs.Bytes.{Bytes}
+use Rattle.unftp_control_serve.specs.Decoder.{MayRunOut, Pending, StaysPending, TakesLine, kept_bytes}
+use Rattle.unftp_control_defs.specs.Events.{FtpEvent}
+use Rattle.unftp_control_defs.specs.FtpReply.{encoded}
+use Rattle.unftp_control_serve.proofs.ClientLineLemmas.{MayRunOut-taken}
 use Rattle.example_callers.specs.declared.event_loop.Turn.{Turn}
 use Rattle.example_callers.specs.declared.event_loop.Turn.TheVariants.{Close}
 use Rattle.example_callers.specs.EventLoop.{AnswersNext, LeavesUnanswered, left_after, loop_replies, turn_after}

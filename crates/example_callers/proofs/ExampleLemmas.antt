@@ -1,10 +1,10 @@
 -- What the examples share.
 use Rattle.std.proofs.Common.{◌≡◌, ℕ, List, [], ◌∷◌, ◌++◌, Option, append-nil, sym, ap, ◌∙◌}
-use Rattle.unftp_control.specs.Bytes.{Bytes}
-use Rattle.unftp_control.specs.Events.{FtpEvent}
-use Rattle.unftp_control.specs.Lines.{IsLine, incomplete_line, lines_of}
-use Rattle.unftp_control.specs.TakingSteps.{TakesEvent}
-use Rattle.unftp_control.proofs.LineLemmas.{Lines-unique, line_first}
+use Rattle.unftp_control_defs.specs.Bytes.{Bytes}
+use Rattle.unftp_control_defs.specs.Events.{FtpEvent}
+use Rattle.unftp_control_defs.specs.Lines.{IsLine, incomplete_line, lines_of}
+use Rattle.unftp_control_defs.specs.TakingSteps.{TakesEvent}
+use Rattle.unftp_control_defs.proofs.LineLemmas.{Lines-unique, line_first}
 
 -- the lines of a line are that line
 pub lines_of-IsLine : {line : Bytes} → IsLine line → line ∷ [] ≡ lines_of line

@@ -6,13 +6,13 @@ use Rattle.std.proofs.Math.Seq.{split_at}
 use Rattle.std.proofs.lemmas.Bool.{false≢true}
 use Rattle.std.proofs.lemmas.List.{append-nil, map-append, map_more}
 use Rattle.std.proofs.lemmas.List.Folds.{concat-append}
-use Rattle.unftp_control.specs.Bytes.{Bytes}
-use Rattle.unftp_control.specs.Events.{events}
-use Rattle.unftp_control.specs.Run.{SessionLaw, run_for}
-use Rattle.unftp_control.specs.Endings.{AllAnswered, PieceOutcome, Snapshot}
-use Rattle.unftp_control.specs.Engine.{EngineState, IsRunning, LacksPieceRoom, bytes_with, fed, more_left}
-use Rattle.unftp_control.specs.declared.serve.ServeError.{ServeError}
-use Rattle.unftp_control.proofs.SoFarLemmas.{AnsweredSoFar, AnsweredSoFar-ended, AnsweredSoFar-on, RunFailed-on, gone_on}
+use Rattle.unftp_control_defs.specs.Bytes.{Bytes}
+use Rattle.unftp_control_defs.specs.Events.{events}
+use Rattle.unftp_control_defs.specs.Run.{SessionLaw, run_for}
+use Rattle.unftp_control_serve.specs.Endings.{AllAnswered, PieceOutcome, Snapshot}
+use Rattle.unftp_control_serve.specs.Engine.{EngineState, IsRunning, LacksPieceRoom, bytes_with, fed, more_left}
+use Rattle.unftp_control_serve.specs.declared.error.ServeError.{ServeError}
+use Rattle.unftp_control_serve.proofs.SoFarLemmas.{AnsweredSoFar, AnsweredSoFar-ended, AnsweredSoFar-on, RunFailed-on, gone_on}
 use Rattle.example_callers.specs.Pieces.{FailsAtPiece}
 
 -- a piece among others, after those that were sent

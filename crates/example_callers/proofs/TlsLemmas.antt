@@ -2,11 +2,11 @@
 use Rattle.std.proofs.Common.{◌≡◌, ◌==◌, ◌&&◌, Bool, true, false, List, [], ◌∷◌, ◌++◌, Some, length, refl, sym, ◌∙◌, codes}
 use Rattle.std.specs.List.{concat}
 use Rattle.std.proofs.lemmas.Bool.{false≢true}
-use Rattle.unftp_control.specs.Bytes.{Bytes}
-use Rattle.unftp_control.specs.Decoder.{saturating_u64}
-use Rattle.unftp_control.specs.Run.{after_end, ends_for, text_for, unread, as_session}
-use Rattle.unftp_control.specs.Input.{InputState}
-use Rattle.unftp_control.specs.Writing.{OutputState}
+use Rattle.unftp_control_defs.specs.Bytes.{Bytes}
+use Rattle.unftp_control_serve.specs.Decoder.{saturating_u64}
+use Rattle.unftp_control_defs.specs.Run.{after_end, ends_for, text_for, unread, as_session}
+use Rattle.unftp_control_defs.specs.Input.{InputState}
+use Rattle.unftp_control_serve.specs.Writing.{OutputState}
 use Rattle.unftp_control_defs.proofs.Computing.{at_bytes}
 use Rattle.example_callers.specs.UntilTls.{BeginsTls, until_tls}
 

@@ -1,9 +1,9 @@
 -- A handler that knows NOOP and QUIT.
 use Rattle.std.specs.Prelude.{◌≡◌, Bool, codes}
-use Rattle.unftp_control.specs.Events.{FtpEvent, Command, Refused, is_quit, out_of_memory}
-use Rattle.unftp_control.specs.FtpCommand.{Noop, Quit}
-use Rattle.unftp_control.specs.FtpReply.{FtpReply, CodeAndMsg}
-use Rattle.unftp_control.specs.Run.{Law}
+use Rattle.unftp_control_defs.specs.Events.{FtpEvent, Command, Refused, is_quit, out_of_memory}
+use Rattle.unftp_control_defs.specs.FtpCommand.{Noop, Quit}
+use Rattle.unftp_control_defs.specs.FtpReply.{FtpReply, CodeAndMsg}
+use Rattle.unftp_control_defs.specs.Run.{Law}
 
 abbrev pub basic_reply : FtpEvent → FtpReply
 basic_reply (Command Noop) = CodeAndMsg 200 (codes "OK")

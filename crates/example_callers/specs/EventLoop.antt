@@ -1,12 +1,12 @@
 -- A server with an event loop of its own: what it replies to each event, and what it does then.
 use Rattle.std.specs.Prelude.{◌≡◌, ◌⊎◌, List, [], ◌∷◌, ◌++◌, flat_map, codes}
-use Rattle.unftp_control.specs.Bytes.{Bytes}
-use Rattle.unftp_control.specs.Decoder.{FindsNoLine, Pending, StaysPending}
-use Rattle.unftp_control.specs.TakingSteps.{TakesEvent}
-use Rattle.unftp_control.specs.Events.{FtpEvent, Command, Refused}
-use Rattle.unftp_control.specs.FtpCommand.{Auth, Quit, Retr}
-use Rattle.unftp_control.specs.FtpReply.{FtpReply, CodeAndMsg, encoded}
-use Rattle.unftp_control.specs.declared.commands.AuthParam.TheVariants.{Tls}
+use Rattle.unftp_control_defs.specs.Bytes.{Bytes}
+use Rattle.unftp_control_serve.specs.Decoder.{FindsNoLine, Pending, StaysPending}
+use Rattle.unftp_control_defs.specs.TakingSteps.{TakesEvent}
+use Rattle.unftp_control_defs.specs.Events.{FtpEvent, Command, Refused}
+use Rattle.unftp_control_defs.specs.FtpCommand.{Auth, Quit, Retr}
+use Rattle.unftp_control_defs.specs.FtpReply.{FtpReply, CodeAndMsg, encoded}
+use Rattle.unftp_control_defs.specs.declared.parameters.AuthParam.TheVariants.{Tls}
 use Rattle.example_callers.specs.declared.event_loop.Turn.{Turn}
 use Rattle.example_callers.specs.declared.event_loop.Turn.TheVariants.{Read, GoOn, Close, StartTls}
 

@@ -2,7 +2,7 @@
 use Rattle.std.specs.Prelude.{ℕ, Bool, ◌==◌, if◌then◌else◌, [], ◌∷◌, ◌++◌, take, drop, Option, Some, None, option_map, bytes_eq, codes}
 use Rattle.std.specs.List.{list_any, slice_split}
 use Rattle.std.specs.Str.{str_to_ascii_lowercase}
-use Rattle.unftp_control.specs.Bytes.{Bytes, SP}
+use Rattle.unftp_control_defs.specs.Bytes.{Bytes, SP}
 use Rattle.example_callers.specs.declared.fact_list.Facts.{Facts}
 
 -- the case of letters is ignored (RFC 959, section 5.3)

@@ -1,9 +1,9 @@
 -- What a client is replied where a proxy doesn't forward its line.
 use Rattle.std.specs.Prelude.{◌≡◌, Err, IsOk, codes}
-use Rattle.unftp_control.specs.Bytes.{Bytes}
-use Rattle.unftp_control.specs.FtpCommand.{Refusal}
-use Rattle.unftp_control.specs.Lines.{IsLine}
-use Rattle.unftp_control.specs.Outcome.{outcome}
+use Rattle.unftp_control_defs.specs.Bytes.{Bytes}
+use Rattle.unftp_control_defs.specs.FtpCommand.{Refusal}
+use Rattle.unftp_control_defs.specs.Lines.{IsLine}
+use Rattle.unftp_control_defs.specs.Outcome.{outcome}
 
 -- The bytes are not one line, or the line is no command; or memory ran out, which it only does for
 -- a line that is one.

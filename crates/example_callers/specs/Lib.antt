@@ -2,6 +2,7 @@ pub mod Sessions
 pub mod NextNoop
 pub mod Forwarding
 pub mod Basic
+pub mod Restarting
 pub mod UntilTls
 pub mod EventLoop
 pub mod NoFiles

@@ -1,13 +1,13 @@
 -- What a client makes of the replies that it receives (RFC 959, section 4.2).
 use Rattle.std.specs.Prelude.{◌≡◌, ◌↔◌, ◌++◌, ℕ, Bool, List, [], IsTrue, IsSome, Option, Some, None, Result, Ok, Err, MatchResult}
-use Rattle.unftp_control.specs.Bytes.{Bytes}
-use Rattle.unftp_control.specs.Exchange.{IsNext, MayBeginTls, NextClientReply, only_reply}
-use Rattle.unftp_control.specs.Input.{InputState, HasRead}
-use Rattle.unftp_control.specs.ReplyDecoding.{NextReply, PendingReplies}
-use Rattle.unftp_control.specs.Receiving.{Receives}
-use Rattle.unftp_control.specs.TakingSteps.{TakesReply}
-use Rattle.unftp_control.specs.declared.client.Client.{Client}
-use Rattle.unftp_control.specs.declared.read.ReceiveError.{ReceiveError}
+use Rattle.unftp_control_defs.specs.Bytes.{Bytes}
+use Rattle.unftp_control_client.specs.Exchange.{IsNext, MayBeginTls, NextClientReply, only_reply}
+use Rattle.unftp_control_defs.specs.Input.{InputState, HasRead}
+use Rattle.unftp_control_read.specs.ReplyDecoding.{NextReply, PendingReplies}
+use Rattle.unftp_control_read.specs.Receiving.{Receives}
+use Rattle.unftp_control_defs.specs.TakingSteps.{TakesReply}
+use Rattle.unftp_control_client.specs.declared.Client.{Client}
+use Rattle.unftp_control_read.specs.declared.errors.ReceiveError.{ReceiveError}
 
 -- of a reply only its code
 abbrev pub only_code : NextReply ReceiveError → Result (Option ℕ) ReceiveError

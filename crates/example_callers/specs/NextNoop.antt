@@ -1,11 +1,11 @@
--- What is made of an answer of `decode` where only NOOP is known.
+-- What is made of what `decode` returns, where only NOOP is known.
 use Rattle.std.specs.Prelude.{◌≡◌, ◌≢◌, ◌⊎◌, ◌↔◌, Bool, false, IsTrue, Option, Some, None, Result, Ok, Err}
-use Rattle.unftp_control.specs.CommandMeaning.{command_of}
-use Rattle.unftp_control.specs.Decoding.{Decoded}
-use Rattle.unftp_control.specs.ErrorMeaning.{fault_of}
-use Rattle.unftp_control.specs.ErrorParts.{KindAndSource}
-use Rattle.unftp_control.specs.Events.{OutOfMemory}
-use Rattle.unftp_control.specs.FtpCommand.{Noop}
+use Rattle.unftp_control_message.specs.CommandMeaning.{command_of}
+use Rattle.unftp_control_codecs.specs.Decoding.{Decoded}
+use Rattle.unftp_control_message.specs.ErrorMeaning.{fault_of}
+use Rattle.unftp_control_message.specs.ErrorParts.{KindAndSource}
+use Rattle.unftp_control_defs.specs.Events.{OutOfMemory}
+use Rattle.unftp_control_defs.specs.FtpCommand.{Noop}
 
 -- No line; whether the command is NOOP; out of memory, as it is; and any other refusal is no NOOP.
 abbrev pub IsNextNoop : Decoded → Result (Option Bool) KindAndSource → Type 0

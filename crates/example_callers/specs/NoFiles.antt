@@ -1,7 +1,7 @@
 -- A server that has no files.
 use Rattle.std.specs.Prelude.{Bool, true, false, codes, if◌then◌else◌}
-use Rattle.unftp_control.specs.FtpCommand.{FtpCommand, Noop, Retr, Size, Mdtm}
-use Rattle.unftp_control.specs.FtpReply.{FtpReply, CodeAndMsg}
+use Rattle.unftp_control_defs.specs.FtpCommand.{FtpCommand, Noop, Retr, Size, Mdtm}
+use Rattle.unftp_control_defs.specs.FtpReply.{FtpReply, CodeAndMsg}
 
 abbrev pub names_a_file : FtpCommand → Bool
 names_a_file (Retr _) = true

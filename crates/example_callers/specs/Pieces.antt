@@ -1,12 +1,12 @@
 -- Pieces of an input that an engine is fed one after the other.
 use Rattle.std.specs.Prelude.{◌≡◌, ◌⊎◌, None, List, [], ◌∷◌, ◌++◌, Result, MatchResult}
 use Rattle.std.specs.List.{concat}
-use Rattle.unftp_control.specs.Bytes.{Bytes}
-use Rattle.unftp_control.specs.Endings.{AllAnswered, RunFailed, Snapshot}
-use Rattle.unftp_control.specs.Events.{FtpEvent, events}
-use Rattle.unftp_control.specs.Run.{SessionLaw, run_for}
-use Rattle.unftp_control.specs.declared.serve.ServeError.{ServeError}
-use Rattle.unftp_control.specs.declared.serve.ServeError.TheVariants.{OutOfMemory}
+use Rattle.unftp_control_defs.specs.Bytes.{Bytes}
+use Rattle.unftp_control_serve.specs.Endings.{AllAnswered, RunFailed, Snapshot}
+use Rattle.unftp_control_defs.specs.Events.{FtpEvent, events}
+use Rattle.unftp_control_defs.specs.Run.{SessionLaw, run_for}
+use Rattle.unftp_control_serve.specs.declared.error.ServeError.{ServeError}
+use Rattle.unftp_control_serve.specs.declared.error.ServeError.TheVariants.{OutOfMemory}
 
 -- There was no memory for the last of these pieces, and all lines of those before it were answered.
 abbrev pub HasNoRoom : {S : Type 0} → SessionLaw S → Snapshot S → Bytes → Bytes → Snapshot S

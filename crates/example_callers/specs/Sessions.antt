@@ -1,17 +1,14 @@
 -- A whole session.
 use Rattle.std.specs.Prelude.{ℕ, [], Option, Result, MatchResult}
-use Rattle.unftp_control.specs.Bytes.{Bytes}
-use Rattle.unftp_control.specs.Endings.{Snapshot}
-use Rattle.unftp_control.specs.Input.{InputState}
-use Rattle.unftp_control.specs.Run.{SessionLaw}
-use Rattle.unftp_control.specs.Service.{AnsweredAll, ServeEnded}
-use Rattle.unftp_control.specs.Writing.{OutputState}
-use Rattle.unftp_control.specs.declared.serve.ServeError.{ServeError}
-use Rattle.unftp_control.specs.declared.serve.Served.{Served}
-
--- a handler in this state, which has failed so often, and this output
-abbrev pub snapshot : {S : Type 0} → S → ℕ → OutputState → Snapshot S
-snapshot state failures output = record { state = state; failures = failures; output = output }
+use Rattle.unftp_control_defs.specs.Bytes.{Bytes}
+use Rattle.unftp_control_serve.specs.Endings.{Snapshot}
+use Rattle.unftp_control_defs.specs.Input.{InputState}
+use Rattle.unftp_control_defs.specs.Run.{SessionLaw}
+use Rattle.unftp_control_serve.specs.Service.{AnsweredAll, ServeEnded}
+use Rattle.unftp_control_login.specs.SessionState.{snapshot}
+use Rattle.unftp_control_serve.specs.Writing.{OutputState}
+use Rattle.unftp_control_serve.specs.declared.error.ServeError.{ServeError}
+use Rattle.unftp_control_serve.specs.declared.service.Served.{Served}
 
 -- an output that was not used, over a writer with these written bytes
 abbrev pub unused_output : Option Bytes → OutputState

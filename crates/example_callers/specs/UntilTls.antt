@@ -1,16 +1,16 @@
 -- A session in clear text, which ends where TLS begins (RFC 4217, section 4).
 use Rattle.std.specs.Prelude.{◌≡◌, ◌==◌, ◌&&◌, ◌⊎◌, ℕ, Bool, true, false, if◌then◌else◌, [], Some, codes}
-use Rattle.unftp_control.specs.Bytes.{Bytes}
-use Rattle.unftp_control.specs.Events.{FtpEvent, Command, out_of_memory}
-use Rattle.unftp_control.specs.FtpCommand.{Auth}
-use Rattle.unftp_control.specs.FtpReply.{CodeAndMsg}
-use Rattle.unftp_control.specs.Run.{Law, after_end, as_session, ends_for, text_for}
-use Rattle.unftp_control.specs.Input.{InputState, HasRead}
-use Rattle.unftp_control.specs.Service.{AnsweredAll}
-use Rattle.unftp_control.specs.Writing.{HasWritten, OutputState}
-use Rattle.unftp_control.specs.declared.serve.Served.{Served}
-use Rattle.example_callers.specs.Sessions.{snapshot}
-use Rattle.unftp_control.specs.declared.commands.AuthParam.TheVariants.{Tls}
+use Rattle.unftp_control_defs.specs.Bytes.{Bytes}
+use Rattle.unftp_control_defs.specs.Events.{FtpEvent, Command, out_of_memory}
+use Rattle.unftp_control_defs.specs.FtpCommand.{Auth}
+use Rattle.unftp_control_defs.specs.FtpReply.{CodeAndMsg}
+use Rattle.unftp_control_defs.specs.Run.{Law, after_end, as_session, ends_for, text_for}
+use Rattle.unftp_control_defs.specs.Input.{InputState, HasRead}
+use Rattle.unftp_control_serve.specs.Service.{AnsweredAll}
+use Rattle.unftp_control_serve.specs.Writing.{HasWritten, OutputState}
+use Rattle.unftp_control_serve.specs.declared.service.Served.{Served}
+use Rattle.unftp_control_login.specs.SessionState.{snapshot}
+use Rattle.unftp_control_defs.specs.declared.parameters.AuthParam.TheVariants.{Tls}
 
 abbrev pub is_auth_tls : FtpEvent → Bool
 is_auth_tls (Command (Auth Tls)) = true

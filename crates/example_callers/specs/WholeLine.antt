@@ -1,13 +1,13 @@
 -- A server that serves what the grammar drops of a line: what each line asks, and what it replies.
 use Rattle.std.specs.Prelude.{◌≡◌, Bool, true, false, Ok, None, Some, ◌++◌, ◌⊎◌, codes}
 use Rattle.std.specs.Str.{IsTrimAsciiEnd, str_to_ascii_lowercase}
-use Rattle.unftp_control.specs.Bytes.{Bytes}
-use Rattle.unftp_control.specs.Decoder.{Pending, TakesLine, line_after}
-use Rattle.unftp_control.specs.EventMeaning.{event_meant}
-use Rattle.unftp_control.specs.Events.{FtpEvent, Command, Refused}
-use Rattle.unftp_control.specs.FtpCommand.{Epsv, Pasv, Port, TypeCode}
-use Rattle.unftp_control.specs.FtpReply.{FtpReply, CodeAndMsg, encoded}
-use Rattle.unftp_control.specs.declared.serve.Event.{Event}
+use Rattle.unftp_control_defs.specs.Bytes.{Bytes}
+use Rattle.unftp_control_serve.specs.Decoder.{Pending, TakesLine, line_after}
+use Rattle.unftp_control_serve.specs.EventMeaning.{event_meant}
+use Rattle.unftp_control_defs.specs.Events.{FtpEvent, Command, Refused}
+use Rattle.unftp_control_defs.specs.FtpCommand.{Epsv, Pasv, Port, TypeCode}
+use Rattle.unftp_control_defs.specs.FtpReply.{FtpReply, CodeAndMsg, encoded}
+use Rattle.unftp_control_serve.specs.declared.event.Event.{Event}
 use Rattle.example_callers.specs.declared.whole_line.Asked.{Asked}
 use Rattle.example_callers.specs.FactList.{facts_asked, facts_text}
 use Rattle.example_callers.specs.declared.fact_list.Facts.{Facts}

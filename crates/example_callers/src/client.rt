@@ -1,15 +1,15 @@
 //! A client.
 ghost use Rattle.std.specs.Prelude.{◌≡◌, List, IsTrue, IfErr, IfOk, MatchOption};
 ghost use Rattle.example_callers.specs.NextCode.{ReadsAgreement, ReceivesAgreement, ReceivesCode};
-ghost use Rattle.unftp_control.specs.Bytes.{Bytes};
-ghost use Rattle.unftp_control.specs.Input.{input_state_of};
-ghost use Rattle.unftp_control.specs.ReplyReader.{FrontReply, IsPartial};
-ghost use Rattle.unftp_control.specs.Reading.{ReturnsRefusal};
+ghost use Rattle.unftp_control_defs.specs.Bytes.{Bytes};
+ghost use Rattle.unftp_control_defs.specs.Input.{input_state_of};
+ghost use Rattle.unftp_control_defs.specs.ReplyReader.{FrontReply, IsPartial};
+ghost use Rattle.unftp_control_read.specs.Reading.{ReturnsRefusal};
 
 use std::alloc::Global;
 use std::io::Read;
-use unftp_control::client::Client;
-use unftp_control::read::{Front, Input, ReadReplyError, ReceiveError, ReplyDecoder, read_reply};
+use unftp_control_client::Client;
+use unftp_control_read::{Front, Input, ReadReplyError, ReceiveError, ReplyDecoder, read_reply};
 
 /// The code of the server's next reply, or `None` where it has closed the connection.
 pub fn next_code<R: Read>(

@@ -2,24 +2,25 @@
 ghost use Rattle.std.specs.Prelude.{◌≡◌, ◌+◌, ◌≤◌, ◌++◌, length, drop, IfErr, OnErr, OnOk, codes, if◌then◌else◌};
 ghost use Rattle.std.specs.Vec.{vec_len};
 ghost use Rattle.example_callers.specs.NextNoop.{IsNextNoop};
-ghost use Rattle.unftp_control.specs.Decoding.{Decoded, Decodes};
-ghost use Rattle.unftp_control.specs.ErrorMeaning.{fault_of};
-ghost use Rattle.unftp_control.specs.Events.{out_of_memory};
-ghost use Rattle.unftp_control.specs.FtpReply.{CodeAndMsg, encoded};
+ghost use Rattle.unftp_control_codecs.specs.Decoding.{Decoded, Decodes};
+ghost use Rattle.unftp_control_message.specs.ErrorMeaning.{fault_of};
+ghost use Rattle.unftp_control_defs.specs.Events.{out_of_memory};
+ghost use Rattle.unftp_control_defs.specs.FtpReply.{CodeAndMsg, encoded};
 
 use std::alloc::Global;
-use unftp_control::codecs::FtpCodec;
-use unftp_control::command::{Command, same_commands};
-use unftp_control::error::{ControlChanError, ControlChanErrorKind};
-use unftp_control::reply::{Reply, ReplyCode};
+use unftp_control::command::same_commands;
+use unftp_control_codecs::FtpCodec;
+use unftp_control_message::Command;
+use unftp_control_message::reply::error::{ControlChanError, ControlChanErrorKind};
+use unftp_control_message::reply::{Reply, ReplyCode};
 
 /// Whether the line that the codec returned is NOOP: `None` while no line is complete.
 fn is_noop(
-    answer: Result<Option<Command>, ControlChanError>,
+    decoded: Result<Option<Command>, ControlChanError>,
 ) -> Result<Option<bool>, ControlChanError>
-    ensures { IsNextNoop answer result }
+    ensures { IsNextNoop decoded result }
 {
-    match answer {
+    match decoded {
         Ok(None) => Ok(None),
         Ok(Some(command)) => {
             // a law, for the proof: commands are equal where they mean the same
@@ -43,9 +44,9 @@ pub fn next_is_noop(
     buf: &mut Vec<u8>,
 ) -> Result<Option<bool>, ControlChanError>
     requires { codec.old.place ≤ vec_len buf.old }
-    ensures next { (answer : Decoded)
-        × Decodes codec.old codec.new buf.old.items buf.new.items answer
-        × IsNextNoop answer result }
+    ensures next { (decoded : Decoded)
+        × Decodes codec.old codec.new buf.old.items buf.new.items decoded
+        × IsNextNoop decoded result }
     ensures within { codec.new.place ≤ vec_len buf.new }
 {
     is_noop(codec.decode(alloc, buf))
@@ -59,13 +60,13 @@ pub fn first_is_noop(
     bytes: &[u8],
 ) -> (usize, Result<Option<bool>, ControlChanError>)
     requires { codec.old.place ≤ length bytes.now }
-    ensures first { (answer : Decoded)
-        × Decodes codec.old codec.new bytes.now (drop result.0 bytes.now) answer
-        × IsNextNoop answer result.1 }
+    ensures first { (decoded : Decoded)
+        × Decodes codec.old codec.new bytes.now (drop result.0 bytes.now) decoded
+        × IsNextNoop decoded result.1 }
     ensures within { result.0 + codec.new.place ≤ length bytes.now }
 {
-    let (taken, answer) = codec.decode_slice(alloc, bytes);
-    (taken, is_noop(answer))
+    let (taken, decoded) = codec.decode_slice(alloc, bytes);
+    (taken, is_noop(decoded))
 }
 
 /// Appends the reply to a line.

@@ -1,22 +1,22 @@
 //! A server with an event loop of its own: it pushes what it has read, takes one event at a time,
 //! and sends what it likes before it takes the next.
 ghost use Rattle.std.specs.Prelude.{◌≡◌, ◌++◌, flat_map, IfErr, IfOk, OnErr, OnOk};
-ghost use Rattle.unftp_control.specs.CommandMeaning.{command_of};
-ghost use Rattle.unftp_control.specs.ErrorMeaning.{fault_of};
-ghost use Rattle.unftp_control.specs.EventMeaning.{event_meant};
-ghost use Rattle.unftp_control.specs.Events.{Command as CommandEvent, out_of_memory};
-ghost use Rattle.unftp_control.specs.FtpReply.{CodeAndMsg, encoded};
-ghost use Rattle.unftp_control.specs.ReplyMeaning.{number_of};
-ghost use Rattle.unftp_control.specs.Writing.{Begins};
+ghost use Rattle.unftp_control_message.specs.CommandMeaning.{command_of};
+ghost use Rattle.unftp_control_message.specs.ErrorMeaning.{fault_of};
+ghost use Rattle.unftp_control_serve.specs.EventMeaning.{event_meant};
+ghost use Rattle.unftp_control_defs.specs.Events.{Command as CommandEvent, out_of_memory};
+ghost use Rattle.unftp_control_defs.specs.FtpReply.{CodeAndMsg, encoded};
+ghost use Rattle.unftp_control_message.specs.ReplyMeaning.{number_of};
+ghost use Rattle.unftp_control_serve.specs.Writing.{Begins};
 ghost use Rattle.example_callers.specs.EventLoop.{AnswersNext, LeavesUnanswered, loop_replies, turn_after};
 
 use std::alloc::Global;
-use unftp_control::codecs::encode_reply;
-use unftp_control::command::Command;
-use unftp_control::commands::AuthParam::Tls;
-use unftp_control::error::ControlChanError;
-use unftp_control::reply::{Reply, ReplyCode};
-use unftp_control::serve::{Event, EventDecoder};
+use unftp_control_codecs::encode_reply;
+use unftp_control_message::AuthParam::Tls;
+use unftp_control_message::Command;
+use unftp_control_message::reply::error::ControlChanError;
+use unftp_control_message::reply::{Reply, ReplyCode};
+use unftp_control_serve::{Event, EventDecoder};
 
 /// What the server does next.
 #[derive(Clone, Copy, Debug, PartialEq, Eq)]

@@ -5,17 +5,19 @@ ghost use Rattle.example_callers.specs.Allowed.{only_reads};
 ghost use Rattle.example_callers.specs.EventLoop.{loop_replies, turn_after};
 ghost use Rattle.example_callers.specs.FactList.{facts_asked, facts_text};
 ghost use Rattle.example_callers.specs.Forwarding.{IsReplyInPlace};
+ghost use Rattle.example_callers.specs.Restarting.{restarting};
 ghost use Rattle.example_callers.specs.UntilTls.{BeginsTls, EndsWithAuth};
 ghost use Rattle.example_callers.specs.WholeLine.{AsksFor, all_facts, image_modes, modes_after, no_facts, line_reply};
-ghost use Rattle.unftp_control.specs.Bytes.{Bytes};
-ghost use Rattle.unftp_control.specs.Events.{Command, Refused, refusal_fault};
-ghost use Rattle.unftp_control.specs.FtpCommand.{Auth, Epsv, InvalidCommand, Pasv, Quit, Retr, TypeCode};
-ghost use Rattle.unftp_control.specs.Filtering.{AnswerWith, AsItIs, Forward};
-ghost use Rattle.unftp_control.specs.Forwarding.{IsForwardError, IsForwarded};
-ghost use Rattle.unftp_control.specs.FtpReply.{CodeAndMsg};
-ghost use Rattle.unftp_control.specs.Input.{InputState};
-ghost use Rattle.unftp_control.specs.Writing.{OutputState};
-ghost use Rattle.unftp_control.specs.declared.commands.AuthParam.TheVariants.{Ssl, Tls};
+ghost use Rattle.unftp_control_defs.specs.Bytes.{Bytes};
+ghost use Rattle.unftp_control_defs.specs.Events.{Command, Refused, refusal_fault};
+ghost use Rattle.unftp_control_defs.specs.FtpCommand.{Auth, Epsv, InvalidCommand, Other, Pasv, Quit, Retr, TypeCode};
+ghost use Rattle.unftp_control_proxy.specs.Filtering.{AnswerWith, AsItIs, Forward};
+ghost use Rattle.unftp_control_write.specs.Forwarding.{IsForwardError, IsForwarded};
+ghost use Rattle.unftp_control_defs.specs.FtpReply.{CodeAndMsg};
+ghost use Rattle.unftp_control_defs.specs.Input.{InputState};
+ghost use Rattle.unftp_control_defs.specs.Run.{replies_to};
+ghost use Rattle.unftp_control_serve.specs.Writing.{OutputState};
+ghost use Rattle.unftp_control_defs.specs.declared.parameters.AuthParam.TheVariants.{Ssl, Tls};
 
 pub mod log;
 pub mod sessions;
@@ -23,8 +25,8 @@ pub mod transfers;
 
 use crate::event_loop::Turn;
 use crate::whole_line::{Asked, Modes};
-use unftp_control::line_parser::ParseErrorKind;
-use unftp_control::write::ForwardError;
+use unftp_control_codecs::line_parser::ParseErrorKind;
+use unftp_control_write::ForwardError;
 
 /// `Refused` names the refusal of the line, and `NotALine` is for bytes that are not one.
 pub fn lines_are_refused()
@@ -72,6 +74,17 @@ pub fn lines_only_read()
     ensures refused_delete { only_reads.says tt (codes "DELE\r\n") ≡ AsItIs → ⊥ }
     ensures auth { only_reads.says tt (codes "AUTH\r\n")
         ≡ AnswerWith (CodeAndMsg 500 (codes "Not understood")) }
+{}
+
+/// REIN has two replies, and a longer name has one.
+pub fn restarts_are_answered_so()
+    ensures rein { replies_to restarting (record { restarts = false; is_done = false })
+        (Command (Other (codes "REIN") []))
+        ≡ CodeAndMsg 120 (codes "Service ready soon") ∷ CodeAndMsg 220 (codes "Service ready")
+        ∷ [] }
+    ensures longer { replies_to restarting (record { restarts = true; is_done = false })
+        (Command (Other (codes "REINX") [])) ≡ CodeAndMsg 502 (codes "Not implemented") ∷ [] }
+    ensures goes_on { restarting.done (record { restarts = true; is_done = false }) ≡ true → ⊥ }
 {}
 
 /// An event loop agrees to AUTH TLS only where nothing comes after its line.

@@ -1,13 +1,13 @@
 //! What README shows first.
 ghost use Rattle.std.specs.Prelude.{◌≡◌, Some, OnOk};
 ghost use Rattle.example_callers.specs.Sessions.{SessionEnded, snapshot_at_start, unused_input};
-ghost use Rattle.unftp_control.specs.Endings.{snapshot_of};
-ghost use Rattle.unftp_control.specs.Input.{input_state_of};
-ghost use Rattle.unftp_control.specs.Run.{text_for};
+ghost use Rattle.unftp_control_serve.specs.Endings.{snapshot_of};
+ghost use Rattle.unftp_control_defs.specs.Input.{input_state_of};
+ghost use Rattle.unftp_control_defs.specs.Run.{text_for};
 
 use std::alloc::Global;
 use std::io::{Read, Write};
-use unftp_control::serve::{Input, Output, ServeError, Served, Session, serve_with_limit};
+use unftp_control_serve::{Input, Output, ServeError, Served, Session, serve_with_limit};
 
 /// Answers the lines of a client, until it sends no more or the handler ends the session, and gives
 /// the streams back. A line of more than 8,192 bytes gets one refusal.

@@ -1,16 +1,16 @@
 //! A handler with its law.
 ghost use Rattle.std.specs.Prelude.{◌≡◌, Bool, IfErr, IfOk, false};
 ghost use Rattle.example_callers.specs.Basic.{basic, basic_reply};
-ghost use Rattle.unftp_control.specs.ErrorMeaning.{fault_of};
-ghost use Rattle.unftp_control.specs.EventMeaning.{event_meant};
-ghost use Rattle.unftp_control.specs.Events.{out_of_memory};
-ghost use Rattle.unftp_control.specs.ReplyMeaning.{reply_of};
+ghost use Rattle.unftp_control_message.specs.ErrorMeaning.{fault_of};
+ghost use Rattle.unftp_control_serve.specs.EventMeaning.{event_meant};
+ghost use Rattle.unftp_control_defs.specs.Events.{out_of_memory};
+ghost use Rattle.unftp_control_message.specs.ReplyMeaning.{reply_of};
 
 use std::alloc::Global;
-use unftp_control::command::Command;
-use unftp_control::error::ControlChanError;
-use unftp_control::reply::{Reply, ReplyCode};
-use unftp_control::serve::{Count, Event, Handler};
+use unftp_control_message::Command;
+use unftp_control_message::reply::error::ControlChanError;
+use unftp_control_message::reply::{Reply, ReplyCode};
+use unftp_control_serve::{Count, Event, Handler};
 
 /// Answers NOOP and QUIT, and is done after QUIT.
 #[derive(Drop)]
@@ -58,8 +58,8 @@ impl Handler for Basic {
     }
 }
 
-/// The reply to an event.
-fn answer_event(alloc: Global, event: &Event) -> Result<Reply, ControlChanError>
+/// The reply to an event. It fails only when out of memory.
+pub(crate) fn answer_event(alloc: Global, event: &Event) -> Result<Reply, ControlChanError>
     ensures ok { IfOk result (λ reply. reply_of reply ≡ basic_reply (event_meant event.now)) }
     ensures err { IfErr result (λ error. fault_of error ≡ out_of_memory) }
 {

@@ -1,16 +1,16 @@
 //! What a log shows of a line.
 ghost use Rattle.std.specs.Prelude.{◌≡◌, ◌⊎◌, ◌++◌, IfOk, OnErr, OnOk};
-ghost use Rattle.unftp_control.specs.EventMeaning.{event_meant};
-ghost use Rattle.unftp_control.specs.Events.{event_of};
-ghost use Rattle.unftp_control.specs.LogLine.{log_line};
-ghost use Rattle.unftp_control.specs.Memory.{MayTakeMemory};
-ghost use Rattle.unftp_control.specs.Outcome.{outcome};
-ghost use Rattle.unftp_control.specs.Room.{LacksRoom};
+ghost use Rattle.unftp_control_serve.specs.EventMeaning.{event_meant};
+ghost use Rattle.unftp_control_defs.specs.Events.{event_of};
+ghost use Rattle.unftp_control_log.specs.LogLine.{log_line};
+ghost use Rattle.unftp_control_codecs.specs.Memory.{MayTakeMemory};
+ghost use Rattle.unftp_control_defs.specs.Outcome.{outcome};
+ghost use Rattle.unftp_control_defs.specs.Room.{LacksRoom};
 
 use std::alloc::{AllocError, Global};
-use unftp_control::line_parser::{ParseErrorKind, parse};
-use unftp_control::log::write_log_line;
-use unftp_control::serve::Event;
+use unftp_control_codecs::line_parser::{ParseErrorKind, parse};
+use unftp_control_log::write_log_line;
+use unftp_control_serve::Event;
 
 /// The event of a line.
 fn event_of(alloc: Global, line: &[u8]) -> Result<Event, AllocError>

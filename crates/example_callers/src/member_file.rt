@@ -1,21 +1,26 @@
 //! A file for who has logged in.
 ghost use Rattle.std.specs.Prelude.{ℕ, List, IfErr, IfOk, OnOk, Some};
-ghost use Rattle.example_callers.specs.Sessions.{snapshot};
 ghost use Rattle.example_callers.specs.DataAnswers.{DataAnswer};
 ghost use Rattle.example_callers.specs.Transfers.{TransferState, new_transfers, transfers_law};
-ghost use Rattle.unftp_control.specs.Bytes.{Bytes};
-ghost use Rattle.unftp_control.specs.Gate.{Gated, closed, gated_law, limited_to};
-ghost use Rattle.unftp_control.specs.Input.{HasRead, input_state_of};
-ghost use Rattle.unftp_control.specs.Promises.{MembersAlone};
-ghost use Rattle.unftp_control.specs.Service.{ServeEnded, Serves};
-ghost use Rattle.unftp_control.specs.Writing.{HasWritten, output_state_of};
+ghost use Rattle.unftp_control_defs.specs.Bytes.{Bytes};
+ghost use Rattle.unftp_control_login.specs.Gate.{Gated, gated_law};
+ghost use Rattle.unftp_control_defs.specs.Input.{HasRead, input_state_of};
+ghost use Rattle.unftp_control_login.specs.Promises.{MembersAlone, guarded};
+ghost use Rattle.unftp_control_serve.specs.Service.{ServeEnded, Serves};
+ghost use Rattle.unftp_control_login.specs.SessionState.{snapshot};
+ghost use Rattle.unftp_control_serve.specs.Writing.{HasWritten, output_state_of};
 
-use crate::members::serve_members;
 use crate::transfers::{DataConnection, Transfers, laws};
 use std::alloc::Global;
 use std::io::{Read, Write};
-use unftp_control::login::Accounts;
-use unftp_control::serve::{Input, Output, ServeError, Served};
+use unftp_control_login::{Accounts, serve_members};
+use unftp_control_serve::{Input, Output, ServeError, Served};
+
+/// The most bytes of a line, its line feed counted.
+const LINE_LIMIT: usize = 4096;
+
+/// How many logins may fail; the last of them ends the session.
+const FAILED_LOGINS: u32 = 3;
 
 /// Serves a connection over which who has logged in retrieves a file, or stores it.
 pub fn serve_file<R: Read, W: Write, A: Accounts + Drop, D: DataConnection + Drop>(
@@ -30,9 +35,9 @@ pub fn serve_file<R: Read, W: Write, A: Accounts + Drop, D: DataConnection + Dro
     // answered
     ensures serves { (answers : List DataAnswer) × (state : Gated TransferState)
         × (failures : ℕ) × IfOk result
-        (Serves (Some 4096) (gated_law (transfers_law answers))
-        (snapshot (limited_to 3 (closed (A.accepts accounts)
-        (new_transfers (D.answers connection) file.items))) 0
+        (Serves (Some LINE_LIMIT) (gated_law (transfers_law answers))
+        (snapshot (guarded (Some FAILED_LOGINS) (A.accepts accounts)
+        (new_transfers (D.answers connection) file.items)) 0
         (output_state_of W.contents writer.old))
         (snapshot state failures (output_state_of W.contents writer.new))
         (input_state_of R.remaining reader.old) (input_state_of R.remaining reader.new)) }
@@ -42,12 +47,12 @@ pub fn serve_file<R: Read, W: Write, A: Accounts + Drop, D: DataConnection + Dro
         read
         × HasWritten (output_state_of W.contents writer.old) (output_state_of W.contents writer.new)
         written
-        × MembersAlone (Some 4096) (A.accepts accounts) read written) }
+        × MembersAlone (Some LINE_LIMIT) (A.accepts accounts) read written) }
     ensures err { (answers : List DataAnswer) × (state : Gated TransferState)
         × (failures : ℕ) × IfErr result
-        (ServeEnded (Some 4096) (gated_law (transfers_law answers))
-        (snapshot (limited_to 3 (closed (A.accepts accounts)
-        (new_transfers (D.answers connection) file.items))) 0
+        (ServeEnded (Some LINE_LIMIT) (gated_law (transfers_law answers))
+        (snapshot (guarded (Some FAILED_LOGINS) (A.accepts accounts)
+        (new_transfers (D.answers connection) file.items)) 0
         (output_state_of W.contents writer.old))
         (snapshot state failures (output_state_of W.contents writer.new))
         (input_state_of R.remaining reader.old) (input_state_of R.remaining reader.new)) }
@@ -55,6 +60,8 @@ pub fn serve_file<R: Read, W: Write, A: Accounts + Drop, D: DataConnection + Dro
     laws::transfers_are_exchanges();
     serve_members(
         alloc,
+        LINE_LIMIT,
+        FAILED_LOGINS,
         reader,
         writer,
         accounts,

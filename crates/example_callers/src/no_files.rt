@@ -1,15 +1,15 @@
 //! A reply that is the same for several commands.
 ghost use Rattle.std.specs.Prelude.{◌≡◌, IfErr, IfOk};
 ghost use Rattle.example_callers.specs.NoFiles.{command_reply, names_a_file};
-ghost use Rattle.unftp_control.specs.CommandMeaning.{command_of};
-ghost use Rattle.unftp_control.specs.ErrorMeaning.{fault_of};
-ghost use Rattle.unftp_control.specs.Events.{out_of_memory};
-ghost use Rattle.unftp_control.specs.ReplyMeaning.{reply_of};
+ghost use Rattle.unftp_control_message.specs.CommandMeaning.{command_of};
+ghost use Rattle.unftp_control_message.specs.ErrorMeaning.{fault_of};
+ghost use Rattle.unftp_control_defs.specs.Events.{out_of_memory};
+ghost use Rattle.unftp_control_message.specs.ReplyMeaning.{reply_of};
 
 use std::alloc::Global;
-use unftp_control::command::Command;
-use unftp_control::error::ControlChanError;
-use unftp_control::reply::{Reply, ReplyCode};
+use unftp_control_message::Command;
+use unftp_control_message::reply::error::ControlChanError;
+use unftp_control_message::reply::{Reply, ReplyCode};
 
 /// Whether the command asks for a file.
 fn names_a_file(command: &Command) -> bool

@@ -3,14 +3,14 @@ ghost use Rattle.std.specs.Prelude.{◌≡◌, [], None, Some, map, IfOk, OnOk, 
 ghost use Rattle.std.specs.List.{concat};
 ghost use Rattle.example_callers.specs.Pieces.{AnswersPieces};
 ghost use Rattle.example_callers.specs.Sessions.{snapshot_at_start};
-ghost use Rattle.unftp_control.specs.Decoder.{saturating_u64};
-ghost use Rattle.unftp_control.specs.Endings.{snapshot_of};
-ghost use Rattle.unftp_control.specs.Run.{unread, text_for};
-ghost use Rattle.unftp_control.specs.Writing.{HasWritten, OutputState, output_state_of};
+ghost use Rattle.unftp_control_serve.specs.Decoder.{saturating_u64};
+ghost use Rattle.unftp_control_serve.specs.Endings.{snapshot_of};
+ghost use Rattle.unftp_control_defs.specs.Run.{unread, text_for};
+ghost use Rattle.unftp_control_serve.specs.Writing.{HasWritten, OutputState, output_state_of};
 
 use std::alloc::Global;
 use std::io::Write;
-use unftp_control::serve::{Engine, Output, ServeError, Session};
+use unftp_control_serve::{Engine, Output, ServeError, Session};
 
 /// Answers what a client sent, piece by piece, and returns how many bytes come after the last line
 /// that was answered: the start of a line, or what came after the end of the session.

@@ -1,9 +1,9 @@
 //! A proxy that forwards each line of a client to a server.
 ghost use Rattle.std.specs.Prelude.{◌≡◌, MatchOption};
 ghost use Rattle.example_callers.specs.Forwarding.{IsReplyInPlace};
-ghost use Rattle.unftp_control.specs.Forwarding.{IsForwarded};
+ghost use Rattle.unftp_control_write.specs.Forwarding.{IsForwarded};
 
-use unftp_control::write::{ForwardError, forward};
+use unftp_control_write::{ForwardError, forward};
 
 /// Forwards a client's line: appends what the server is sent. Where it is not forwarded, nothing is
 /// appended, and the client gets the reply that is returned.

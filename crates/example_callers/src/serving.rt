@@ -1,12 +1,12 @@
 //! A connection served to its end.
 ghost use Rattle.std.specs.Prelude.{◌+◌, ◌≤◌, None, Some, IfErr, IfOk};
-ghost use Rattle.unftp_control.specs.Endings.{snapshot_of};
-ghost use Rattle.unftp_control.specs.Input.{input_state_of};
-ghost use Rattle.unftp_control.specs.Service.{ServeEnded, Serves};
+ghost use Rattle.unftp_control_serve.specs.Endings.{snapshot_of};
+ghost use Rattle.unftp_control_defs.specs.Input.{input_state_of};
+ghost use Rattle.unftp_control_serve.specs.Service.{ServeEnded, Serves};
 
 use std::alloc::Global;
 use std::io::{Read, Write};
-use unftp_control::serve::{Input, Output, ServeError, Served, Session, serve, serve_with_limit};
+use unftp_control_serve::{Input, Output, ServeError, Served, Session, serve, serve_with_limit};
 
 /// Answers the lines of a connection to its end.
 pub fn serve_connection<R: Read, W: Write, H: Session>(

@@ -1,20 +1,19 @@
 //! A connection whose commands come under TLS, after AUTH in clear text (RFC 4217, section 4).
 ghost use Rattle.std.specs.Prelude.{◌≡◌, ℕ, Bool, Some, false, IfErr, IfOk};
-ghost use Rattle.example_callers.specs.Sessions.{snapshot};
+ghost use Rattle.unftp_control_login.specs.SessionState.{snapshot};
 ghost use Rattle.example_callers.specs.UntilTls.{BeginsTls, LeavesStream, is_auth_tls, until_tls};
-ghost use Rattle.unftp_control.specs.EventMeaning.{event_meant};
-ghost use Rattle.unftp_control.specs.Input.{input_state_of};
-ghost use Rattle.unftp_control.specs.Service.{ServeEnded};
-ghost use Rattle.unftp_control.specs.Writing.{output_state_of};
-ghost use Rattle.unftp_control.specs.Run.{as_session};
+ghost use Rattle.unftp_control_serve.specs.EventMeaning.{event_meant};
+ghost use Rattle.unftp_control_defs.specs.Input.{input_state_of};
+ghost use Rattle.unftp_control_serve.specs.Service.{ServeEnded};
+ghost use Rattle.unftp_control_serve.specs.Writing.{output_state_of};
+ghost use Rattle.unftp_control_defs.specs.Run.{as_session};
 
 use std::alloc::Global;
 use std::io::{Read, Write};
-use unftp_control::command::Command;
-use unftp_control::commands::AuthParam;
-use unftp_control::error::ControlChanError;
-use unftp_control::reply::{Reply, ReplyCode};
-use unftp_control::serve::{Count, Event, Handler, Input, Output, ServeError, serve_with_limit};
+use unftp_control_message::reply::error::ControlChanError;
+use unftp_control_message::reply::{Reply, ReplyCode};
+use unftp_control_message::{AuthParam, Command};
+use unftp_control_serve::{Count, Event, Handler, Input, Output, ServeError, serve_with_limit};
 
 /// Asks for AUTH TLS, and is done once it has answered it.
 #[derive(Drop)]

@@ -1,22 +1,22 @@
 //! A server that serves what the grammar drops of a line: the type of TYPE, EPSV ALL, and the facts
 //! of OPTS MLST. Its data connections are left out: only EPSV is not implemented.
 ghost use Rattle.std.specs.Prelude.{◌≡◌, ◌↔◌, false, true, IfErr, IfOk, IsTrue, OnErr};
-ghost use Rattle.unftp_control.specs.Decoder.{FindsNoLine};
-ghost use Rattle.unftp_control.specs.ErrorMeaning.{fault_of};
-ghost use Rattle.unftp_control.specs.EventMeaning.{event_meant};
-ghost use Rattle.unftp_control.specs.Events.{out_of_memory};
-ghost use Rattle.unftp_control.specs.FtpReply.{CodeAndMsg};
-ghost use Rattle.unftp_control.specs.ReplyMeaning.{number_of};
+ghost use Rattle.unftp_control_serve.specs.Decoder.{FindsNoLine};
+ghost use Rattle.unftp_control_message.specs.ErrorMeaning.{fault_of};
+ghost use Rattle.unftp_control_serve.specs.EventMeaning.{event_meant};
+ghost use Rattle.unftp_control_defs.specs.Events.{out_of_memory};
+ghost use Rattle.unftp_control_defs.specs.FtpReply.{CodeAndMsg};
+ghost use Rattle.unftp_control_message.specs.ReplyMeaning.{number_of};
 ghost use Rattle.example_callers.specs.EventLoop.{LeavesUnanswered};
 ghost use Rattle.example_callers.specs.WholeLine.{AnswersLine, AsksFor, SaysOneOf, modes_after, line_reply};
 
 use crate::event_loop::reply;
 use crate::fact_list::{Facts, facts_asked, facts_text};
 use std::alloc::Global;
-use unftp_control::command::Command;
-use unftp_control::error::ControlChanError;
-use unftp_control::reply::ReplyCode;
-use unftp_control::serve::{Event, EventDecoder};
+use unftp_control_message::Command;
+use unftp_control_message::reply::ReplyCode;
+use unftp_control_message::reply::error::ControlChanError;
+use unftp_control_serve::{Event, EventDecoder};
 
 /// What a line asks beside its command.
 #[derive(Clone, Copy, Debug, PartialEq, Eq)]

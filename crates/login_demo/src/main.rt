@@ -11,10 +11,11 @@ ghost use Rattle.unftp_control_defs.specs.Bytes.{Bytes};
 ghost use Rattle.unftp_control_defs.specs.Input.{HasRead, input_state_of};
 ghost use Rattle.unftp_control_login.specs.Promises.{MembersAlone};
 ghost use Rattle.unftp_control_login.specs.Gate.{Gated};
+ghost use Rattle.unftp_control_login.specs.SessionState.{snapshot};
 ghost use Rattle.unftp_control_serve.specs.Service.{ServeEnded, Serves};
 ghost use Rattle.unftp_control_serve.specs.Writing.{HasWritten, output_state_of};
 ghost use Rattle.login_demo.specs.declared.session.Session.{Session};
-ghost use Rattle.login_demo.specs.Guarded.{first_snapshot, guarded_law, snapshot};
+ghost use Rattle.login_demo.specs.Guarded.{first_snapshot, guarded_law};
 
 mod accounts;
 mod examples;
@@ -31,8 +32,8 @@ use crate::files::Files;
 use std::alloc::Global;
 use std::io::{Read, Write};
 use std::process::ExitCode;
-use unftp_control_login::{Accounts, Gate, LoginLimit};
-use unftp_control_serve::{Input, Output, ServeError, Served, serve_with_limit};
+use unftp_control_login::{Accounts, serve_members};
+use unftp_control_serve::{Input, Output, ServeError, Served};
 
 /// How many bytes a line may have, its line feed counted.
 const LIMIT: usize = 4096;
@@ -86,9 +87,16 @@ pub fn run<R: Read, W: Write, A: Accounts + Drop>(
         (snapshot session failures (output_state_of W.contents writer.new))
         (input_state_of R.remaining reader.old) (input_state_of R.remaining reader.new)) }
 {
-    let limit = LoginLimit::new(FAILED_LOGINS);
-    let mut gate = Gate::new(accounts, Files::new()).with_limit(limit);
-    serve_with_limit(alloc, LIMIT, reader, writer, &mut gate)
+    laws::files_replies_are_plain();
+    serve_members(
+        alloc,
+        LIMIT,
+        FAILED_LOGINS,
+        reader,
+        writer,
+        accounts,
+        Files::new(),
+    )
 }
 
 fn main(rt: HostRuntime) -> ExitCode {

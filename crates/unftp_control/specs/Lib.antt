@@ -57,6 +57,7 @@ pub use Rattle.unftp_control_serve.specs.ErrorTexts
 pub use Rattle.unftp_control_serve.specs.Endings
 pub use Rattle.unftp_control_serve.specs.Engine
 pub use Rattle.unftp_control_serve.specs.Service
+pub use Rattle.unftp_control_login.specs.SessionState
 pub use Rattle.unftp_control_login.specs.Login
 pub use Rattle.unftp_control_login.specs.HandlerCalls
 pub use Rattle.unftp_control_login.specs.Gate

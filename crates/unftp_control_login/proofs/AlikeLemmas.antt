@@ -26,17 +26,18 @@ use Rattle.unftp_control_login.proofs.StagedLemmas.{AllAlike, Alike, alike-itsel
 use Rattle.unftp_control_login.proofs.StageLemmas.{Reason, reason, stage_after-reason, stage_after_all, lifted, turn_replies-lifted}
 
 -- Lines of passwords may take memory.
-pass-answer : (answer : Outcome) → IsTrue (is_pass (event_of answer)) → OutcomeMayTakeMemory answer
-pass-answer (Ok (Pass password)) h = omega arith
-pass-answer (Ok command) h = absurd (false≢true h)
-pass-answer (Err refusal) h = absurd (false≢true h)
+pass-outcome : (outcome : Outcome) → IsTrue (is_pass (event_of outcome))
+    → OutcomeMayTakeMemory outcome
+pass-outcome (Ok (Pass password)) h = omega arith
+pass-outcome (Ok command) h = absurd (false≢true h)
+pass-outcome (Err refusal) h = absurd (false≢true h)
 
 pass-memory : (limit : Option ℕ) (line : Bytes) (long : Bool) → exceeds limit (length line) ≡ long
     → IsTrue (is_pass (cond long (Refused line_too_long) (event_of (outcome line))))
     → (exceeds limit (length line) ≡ false) × MayTakeMemory line
 pass-memory limit line true e h = absurd (false≢true h)
 pass-memory limit line false e h =
-    (e, pass-answer (outcome line) h)
+    (e, pass-outcome (outcome line) h)
 
 -- Where memory may run out for a line of an input, it may for that at the same place of another one
 -- that differs in passwords.

@@ -149,7 +149,7 @@ gated_law law = record {
   done = λ s. (s.quit || is_used_up s.left) || law.done s.inner;
 }
 
--- a gate before the first event, and one of which so many logins may fail
+-- a gate before the first event, and the same gate without a limit
 abbrev pub closed : {S : Type 0} → Accounts → S → Gated S
 closed accepts inner = record {
   accepts = accepts;
@@ -159,9 +159,6 @@ closed accepts inner = record {
   passed = false;
   inner = inner;
 }
-
-abbrev pub limited_to : {S : Type 0} → ℕ → Gated S → Gated S
-limited_to left s = record s { left = Some left }
 
 abbrev pub unlimited : {S : Type 0} → Gated S → Gated S
 unlimited s = record s { left = None }

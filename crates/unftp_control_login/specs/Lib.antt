@@ -1,3 +1,4 @@
+pub mod SessionState
 pub mod Login
 pub mod HandlerCalls
 pub mod CallMeaning

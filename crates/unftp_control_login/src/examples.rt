@@ -12,13 +12,16 @@ ghost use Rattle.unftp_control_defs.specs.declared.parameters.ProtParam.TheVaria
 ghost use Rattle.unftp_control_defs.specs.declared.parameters.StruParam.TheVariants.{File};
 ghost use Rattle.unftp_control_message.specs.ErrorMeaning.{fault_of};
 ghost use Rattle.unftp_control_message.specs.declared.reply.error.ControlChanError.{ControlChanError as RustError};
+ghost use Rattle.unftp_control_serve.specs.Endings.{snapshot_with};
+ghost use Rattle.unftp_control_serve.specs.Writing.{appended_output};
 ghost use Rattle.unftp_control_login.specs.Login.{GaveName, HasLoggedIn, IsLoggedIn, flushes_login, needs_login};
 ghost use Rattle.unftp_control_login.specs.declared.stage.Stage.TheVariants.{LoggedIn, Named, NoName};
 ghost use Rattle.unftp_control_login.specs.HandlerCalls.{AllCalled, Asks, AsksFurther, CallsMade, FailedCall, Makes, Passes, tells};
-ghost use Rattle.unftp_control_login.specs.Gate.{Answers, LogsIn, PassesOn, calls_by, closed, gated_law, limited_to, logged_in, login_needed, name_needed, not_accepted, password_needed, questions};
+ghost use Rattle.unftp_control_login.specs.Gate.{Answers, LogsIn, PassesOn, calls_by, closed, gated_law, logged_in, login_needed, name_needed, not_accepted, password_needed, questions};
 ghost use Rattle.unftp_control_login.specs.GateState.{GateCalled};
 ghost use Rattle.unftp_control_login.specs.LoginLimit.{EndsWith, failed_in_run, is_failure, too_many};
-ghost use Rattle.unftp_control_login.specs.Promises.{AgreeOnAll, AllLookAlike, DifferInPasswords, FailsAlike, IsRefusedLogin, IsTurnedAway, LearnsName, LooksAlike, MembersAlone, NoFailure, PasswordFits, ReachesHandler, SendsPlainExchanges, ServesMembersAlone, gate_calls};
+ghost use Rattle.unftp_control_login.specs.Promises.{AgreeOnAll, AllLookAlike, DifferInPasswords, FailsAlike, IsRefusedLogin, IsTurnedAway, LearnsName, LooksAlike, MembersAlone, NoFailure, PasswordFits, ReachesHandler, SendsPlainExchanges, ServesMembersAlone, gate_calls, guarded};
+ghost use Rattle.unftp_control_login.specs.SessionState.{snapshot};
 ghost use Rattle.unftp_control_login.specs.Examples.{anna, anna_and_ben, answers_once, ben, counting, here, inner_with, login, only_anna, opened, pass, secret, silent, so_far, transferring, user, wrong};
 
 /// Which events need a login, and which undo one.
@@ -96,7 +99,7 @@ pub fn calls_are_made()
         ≡ Passes (Command Noop) ∷ AsksFurther ∷ [] }
     ensures follow_ups { gate_calls transferring (closed only_anna []) (Command Noop)
         ≡ Passes (Command Noop) ∷ AsksFurther ∷ AsksFurther ∷ [] }
-    ensures last { gate_calls counting (limited_to 1 (closed only_anna 0)) (pass wrong)
+    ensures last { gate_calls counting (guarded (Some 1) only_anna 0) (pass wrong)
         ≡ Makes too_many ∷ [] }
     ensures run { at_each (gate_calls counting) (gated_law counting) (closed only_anna 0)
         (user anna ∷ pass wrong ∷ [])
@@ -156,10 +159,10 @@ pub fn a_gate_has_called()
         → GateCalled {T = ℕ} (λ failed. failed) counting (closed only_anna 0) (inner_with [] 0 0)
         (Command Noop) (inner_with (Passes (Command Noop) ∷ []) 0 1) (Err error) }
     ensures last { GateCalled {T = ℕ} (λ failed. failed) counting
-        (limited_to 1 (closed only_anna 0)) (inner_with [] 0 0) (pass wrong)
+        (guarded (Some 1) only_anna 0) (inner_with [] 0 0) (pass wrong)
         (inner_with (Makes too_many ∷ []) 0 0) (Ok 0) }
     ensures not_last { ¬ GateCalled {T = ℕ} (λ failed. failed) counting
-        (limited_to 2 (closed only_anna 0)) (inner_with [] 0 0) (pass wrong)
+        (guarded (Some 2) only_anna 0) (inner_with [] 0 0) (pass wrong)
         (inner_with (Makes too_many ∷ []) 0 0) (Ok 0) }
     ensures other_fault { (error : RustError) → fault_of error ≡ line_too_long
         → ¬ GateCalled {T = ℕ} (λ failed. failed) counting (closed only_anna 0) (inner_with [] 0 0)
@@ -222,22 +225,31 @@ pub fn passwords_look_alike()
 
 /// What a limit of two failed logins answers: the second is the last.
 pub fn a_limit_counts()
-    ensures replies { replies (gated_law counting) (limited_to 2 (closed only_anna 0))
+    ensures replies { replies (gated_law counting) (guarded (Some 2) only_anna 0)
         (user anna ∷ pass wrong ∷ user anna ∷ pass secret ∷ pass wrong ∷ [])
         ≡ password_needed ∷ not_accepted ∷ password_needed ∷ logged_in ∷ too_many ∷ [] }
-    ensures count { failed_in_run (gated_law counting) (limited_to 2 (closed only_anna 0))
+    ensures count { failed_in_run (gated_law counting) (guarded (Some 2) only_anna 0)
         (pass wrong ∷ user anna ∷ pass secret ∷ pass wrong ∷ pass wrong ∷ []) ≡ 2 }
-    ensures done { ((gated_law counting).done (limited_to 0 (closed only_anna 0)) ≡ true)
-        × ((gated_law counting).done (limited_to 1 (closed only_anna 9)) ≡ true) }
+    ensures done { ((gated_law counting).done (guarded (Some 0) only_anna 0) ≡ true)
+        × ((gated_law counting).done (guarded (Some 1) only_anna 9) ≡ true) }
     ensures last { EndsWith too_many (gated_law counting)
-        (limited_to 1 (closed only_anna 0)) (Command Noop ∷ pass wrong ∷ Command Noop ∷ []) }
+        (guarded (Some 1) only_anna 0) (Command Noop ∷ pass wrong ∷ Command Noop ∷ []) }
     ensures not_last { EndsWith too_many (gated_law counting)
-        (limited_to 2 (closed only_anna 0)) (pass wrong ∷ []) → ⊥ }
-    ensures left { (last_state (gated_law counting) (limited_to 2 (closed only_anna 0))
+        (guarded (Some 2) only_anna 0) (pass wrong ∷ []) → ⊥ }
+    ensures left { (last_state (gated_law counting) (guarded (Some 2) only_anna 0)
         (pass wrong ∷ login)).left ≡ Some 1 }
     ensures unlimited { failed_in_run (gated_law counting) (closed only_anna 0)
         (pass wrong ∷ pass wrong ∷ []) ≡ 2 }
     ensures none { failed_in_run (gated_law counting) (closed only_anna 0) login ≡ 0 }
     ensures preliminary { is_failure opened ≡ false }
     ensures not_ended { EndsWith here counting 0 (Command Noop ∷ []) → ⊥ }
+{}
+
+/// A session as contracts see it, here one that is the count of its failures, and another one.
+pub fn sessions_are_seen_so()
+    ensures same { (failures : ℕ)
+        → snapshot_with (λ s. s) (λ s. s) (λ output. output) failures (appended_output [])
+        ≡ snapshot failures failures (appended_output []) }
+    ensures failed_once { snapshot {S = ℕ} 3 0 (appended_output []) ≡ snapshot 3 1 (appended_output [])
+        → ⊥ }
 {}

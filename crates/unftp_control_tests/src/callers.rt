@@ -8,6 +8,7 @@ use example_callers::handler::Basic;
 use example_callers::lines::log_line;
 use example_callers::pieces::{answer_pieces, replies_to_pieces};
 use example_callers::proxy::forward_line;
+use example_callers::restarting::Restarting;
 use example_callers::serving::{serve_connection, serve_stranger};
 use example_callers::upgrading::serve_until_tls;
 use std::alloc::Global;
@@ -146,6 +147,19 @@ fn a_connection_is_served(rt: HostRuntime) {
     let (served, _, output) = answer_client(alloc, bytes, Vec::new(alloc), &mut Basic::new());
     assert_left(&rt, served);
     assert_held(&rt, output.into_inner(), b"200 OK\r\n");
+}
+
+#[test]
+fn a_session_gives_two_replies(rt: HostRuntime) {
+    let alloc = rt.alloc();
+    let mut output = Output::new(Vec::new(alloc));
+    let mut input = Input::new(b"rein\r\nNOOP\r\nQU".as_slice());
+    assert_left(
+        &rt,
+        serve_connection(alloc, &mut input, &mut output, &mut Restarting::new()),
+    );
+    let want = b"120 Service ready soon\r\n220 Service ready\r\n200 OK\r\n";
+    assert_held(&rt, output.into_inner(), want);
 }
 
 /// The server agrees to TLS after this input, and begins it only where it can.

@@ -1,7 +1,7 @@
 //! Exchanges that a recorder returns, in whatever pieces their bytes came.
 use crate::held::assert_held;
 use std::process::Abort;
-use unftp_control::log::{Limits, Recorder, write_exchange};
+use unftp_control_log::{Limits, Recorder, write_exchange};
 
 const LIMITS: Limits = Limits {
     line: 16,

@@ -11,27 +11,27 @@ ghost use Rattle.example_callers.specs.Pieces.{AnswersPieces, FailsAtPiece, HasN
 ghost use Rattle.example_callers.specs.Sessions.{SessionEnded, snapshot_at_start, unused_input};
 ghost use Rattle.example_callers.specs.UntilTls.{LeavesStream};
 ghost use Rattle.example_callers.specs.WholeLine.{AnswersLine, ascii_modes, image_modes};
-ghost use Rattle.unftp_control.specs.Bytes.{Bytes};
+ghost use Rattle.unftp_control_defs.specs.Bytes.{Bytes};
 ghost use Rattle.unftp_control.specs.ClientRuns.{asking, client_with};
-ghost use Rattle.unftp_control.specs.Decoder.{Pending, no_bytes as no_lines, pushed as lines_pushed};
-ghost use Rattle.unftp_control.specs.Endings.{Snapshot};
-ghost use Rattle.unftp_control.specs.Exchange.{MayBeginTls};
-ghost use Rattle.unftp_control.specs.Input.{InputState};
-ghost use Rattle.unftp_control.specs.ReplyDecoding.{PendingReplies, TakesFirst, appended, content};
-ghost use Rattle.unftp_control.specs.Receiving.{HasFailure};
-ghost use Rattle.unftp_control.specs.Service.{ReadFailed};
-ghost use Rattle.unftp_control.specs.Writing.{OutputState, appended_output};
-ghost use Rattle.unftp_control.specs.declared.client.Client.{Client as RustClient};
-ghost use Rattle.unftp_control.specs.declared.client.ClientReply.{ClientReply as RustReply};
-ghost use Rattle.unftp_control.specs.declared.client.To.TheVariants.{Command};
-ghost use Rattle.unftp_control.specs.declared.serve.Served.{Served};
-ghost use Rattle.unftp_control.specs.declared.serve.ServeError.{ServeError as RustError};
-ghost use Rattle.unftp_control.specs.declared.read.ReceiveError.{ReceiveError as RustFailure};
-ghost use Rattle.unftp_control.specs.Run.{as_session};
+ghost use Rattle.unftp_control_serve.specs.Decoder.{Pending, no_bytes as no_lines, pushed as lines_pushed};
+ghost use Rattle.unftp_control_serve.specs.Endings.{Snapshot};
+ghost use Rattle.unftp_control_client.specs.Exchange.{MayBeginTls};
+ghost use Rattle.unftp_control_defs.specs.Input.{InputState};
+ghost use Rattle.unftp_control_read.specs.ReplyDecoding.{PendingReplies, TakesFirst, appended, content};
+ghost use Rattle.unftp_control_read.specs.Receiving.{HasFailure};
+ghost use Rattle.unftp_control_serve.specs.Service.{ReadFailed};
+ghost use Rattle.unftp_control_serve.specs.Writing.{OutputState, appended_output};
+ghost use Rattle.unftp_control_client.specs.declared.Client.{Client as RustClient};
+ghost use Rattle.unftp_control_client.specs.declared.dialogue.ClientReply.{ClientReply as RustReply};
+ghost use Rattle.unftp_control_client.specs.declared.dialogue.To.TheVariants.{Command};
+ghost use Rattle.unftp_control_serve.specs.declared.service.Served.{Served};
+ghost use Rattle.unftp_control_serve.specs.declared.error.ServeError.{ServeError as RustError};
+ghost use Rattle.unftp_control_read.specs.declared.errors.ReceiveError.{ReceiveError as RustFailure};
+ghost use Rattle.unftp_control_defs.specs.Run.{as_session};
 
 use crate::event_loop::Turn;
 use crate::whole_line::Modes;
-use unftp_control::serve::ServeError;
+use unftp_control_serve::ServeError;
 
 /// What a session is at Ok, where all was read, and at its errors.
 pub fn sessions_end_so()

@@ -1,4 +1,4 @@
-use Rattle.unftp_control.specs.declared.command.Command.TheVariants.{Noop}
+use Rattle.unftp_control_message.specs.declared.Command.TheVariants.{Noop}
 use Rattle.example_callers.proofs.codec.is_noop.Goals as goal
 
 pub returns-in-Ok-Some : goal.returns-in-Ok-Some

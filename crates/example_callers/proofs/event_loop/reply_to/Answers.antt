@@ -1,6 +1,6 @@
 use Rattle.std.proofs.Common.{ap}
 use Rattle.std.proofs.lemmas.List.{append-nil}
-use Rattle.unftp_control.specs.EventMeaning.{event_meant}
+use Rattle.unftp_control_serve.specs.EventMeaning.{event_meant}
 use Rattle.example_callers.specs.EventLoop.{loop_replies}
 use Rattle.example_callers.proofs.event_loop.reply_to.Goals as goal
 

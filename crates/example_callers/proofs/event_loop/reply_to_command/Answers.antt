@@ -1,7 +1,7 @@
 use Rattle.std.proofs.Common.{ap, append_assoc}
 use Rattle.std.proofs.lemmas.List.{append-nil}
-use Rattle.unftp_control.specs.CommandMeaning.{command_of}
-use Rattle.unftp_control.specs.Events.{Command}
+use Rattle.unftp_control_message.specs.CommandMeaning.{command_of}
+use Rattle.unftp_control_defs.specs.Events.{Command}
 use Rattle.example_callers.specs.EventLoop.{loop_replies}
 use Rattle.example_callers.proofs.event_loop.reply_to_command.Goals as goal
 

@@ -1,9 +1,9 @@
 use Rattle.std.proofs.Common.{◌≡◌, ℕ, true, false, ◌∷◌, Ok, Err, codes, refl, sym, ap, ◌∙◌, arith}
 use Rattle.std.specs.Prelude.{IsOk}
-use Rattle.unftp_control.specs.Bytes.{Bytes}
-use Rattle.unftp_control.specs.FtpCommand.{Outcome, InvalidCommand, Noop, Refusal}
-use Rattle.unftp_control.specs.Outcome.{outcome}
-use Rattle.unftp_control.proofs.LineLemmas.{Lines-lines_of}
+use Rattle.unftp_control_defs.specs.Bytes.{Bytes}
+use Rattle.unftp_control_defs.specs.FtpCommand.{Outcome, InvalidCommand, Noop, Refusal}
+use Rattle.unftp_control_defs.specs.Outcome.{outcome}
+use Rattle.unftp_control_defs.proofs.LineLemmas.{Lines-lines_of}
 use Rattle.unftp_control_defs.proofs.Computing.{at_bytes}
 use Rattle.example_callers.specs.Forwarding.{IsReplyInPlace, not_a_line, refused, out_of_memory}
 use Rattle.example_callers.proofs.examples.clients_are_replied.Goals as goal

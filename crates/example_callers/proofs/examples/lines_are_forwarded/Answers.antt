@@ -1,6 +1,6 @@
 use Rattle.std.proofs.Common.{codes, refl}
-use Rattle.unftp_control.specs.FtpCommand.{Cwd, Pwd}
-use Rattle.unftp_control.proofs.LineLemmas.{Lines-lines_of}
+use Rattle.unftp_control_defs.specs.FtpCommand.{Cwd, Pwd}
+use Rattle.unftp_control_defs.proofs.LineLemmas.{Lines-lines_of}
 use Rattle.unftp_control_defs.proofs.Computing.{at_bytes}
 use Rattle.example_callers.proofs.examples.lines_are_forwarded.Goals as goal
 

@@ -1,6 +1,6 @@
 use Rattle.std.proofs.Common.{◌≡◌, false, true, Ok, Err, codes, refl}
-use Rattle.unftp_control.specs.FtpCommand.{InvalidCommand, Retr}
-use Rattle.unftp_control.specs.Outcome.{outcome}
+use Rattle.unftp_control_defs.specs.FtpCommand.{InvalidCommand, Retr}
+use Rattle.unftp_control_defs.specs.Outcome.{outcome}
 use Rattle.unftp_control_defs.proofs.Computing.{at_bytes}
 use Rattle.example_callers.proofs.ExampleLemmas.{lines_of-IsLine}
 use Rattle.example_callers.proofs.examples.lines_are_refused.Goals as goal

@@ -1,6 +1,6 @@
 use Rattle.std.proofs.Common.{Some, sym, ap, ◌∙◌}
 use Rattle.std.proofs.lemmas.Result.{IfOk-weaker, MatchResult-from_both}
-use Rattle.unftp_control.specs.Run.{text_for}
+use Rattle.unftp_control_defs.specs.Run.{text_for}
 use Rattle.example_callers.proofs.CallerLemmas.{both}
 use Rattle.example_callers.proofs.first.answer_client.Goals as goal
 

@@ -1,4 +1,4 @@
-use Rattle.unftp_control.specs.Run.{last_state}
+use Rattle.unftp_control_defs.specs.Run.{last_state}
 use Rattle.example_callers.specs.Transfers.{state_of, transfers_law}
 use Rattle.example_callers.proofs.member_file.serve_file.Goals as goal
 

@@ -1,8 +1,8 @@
 use Rattle.std.proofs.Common.{None, take, map, List}
 use Rattle.std.specs.List.{concat}
-use Rattle.unftp_control.specs.Endings.{snapshot_of}
-use Rattle.unftp_control.specs.Writing.{Begins}
-use Rattle.unftp_control.proofs.SoFarLemmas.{AnsweredSoFar}
+use Rattle.unftp_control_serve.specs.Endings.{snapshot_of}
+use Rattle.unftp_control_serve.specs.Writing.{Begins}
+use Rattle.unftp_control_serve.proofs.SoFarLemmas.{AnsweredSoFar}
 use Rattle.example_callers.proofs.pieces.answer_pieces.Given as goal
 
 abbrev pub invariant-loop-piece : goal.invariant-loop-piece

@@ -1,9 +1,9 @@
 use Rattle.std.proofs.Common.{◌≡◌, [], take, arith}
 use Rattle.std.proofs.lemmas.List.{take_all}
-use Rattle.unftp_control.specs.Endings.{snapshot_with}
-use Rattle.unftp_control.specs.Writing.{appended_state_of}
+use Rattle.unftp_control_serve.specs.Endings.{snapshot_with}
+use Rattle.unftp_control_serve.specs.Writing.{appended_state_of}
 use Rattle.std.proofs.lemmas.Result.{err_from_is_err_and}
-use Rattle.unftp_control.proofs.HeardLemmas.{Begins-refl, Begins-trans}
+use Rattle.unftp_control_serve.proofs.HeardLemmas.{Begins-refl, Begins-trans}
 use Rattle.example_callers.proofs.PieceLemmas.{AnsweredSoFar-more, ComesAfter-at, FailsAtPiece-so, sent-more}
 use Rattle.example_callers.proofs.pieces.replies_to_pieces.Goals as goal
 

@@ -1,9 +1,9 @@
 use Rattle.std.proofs.Common.{None, Some, [], take, map, List}
 use Rattle.std.specs.List.{concat}
-use Rattle.unftp_control.specs.Endings.{snapshot_with}
-use Rattle.unftp_control.specs.Writing.{Begins, appended_state_of}
+use Rattle.unftp_control_serve.specs.Endings.{snapshot_with}
+use Rattle.unftp_control_serve.specs.Writing.{Begins, appended_state_of}
 use Rattle.example_callers.specs.Sessions.{snapshot_at_start}
-use Rattle.unftp_control.proofs.SoFarLemmas.{AnsweredSoFar}
+use Rattle.unftp_control_serve.proofs.SoFarLemmas.{AnsweredSoFar}
 use Rattle.example_callers.proofs.pieces.replies_to_pieces.Given as goal
 
 abbrev pub invariant-loop-piece : goal.invariant-loop-piece

@@ -1,5 +1,5 @@
 use Rattle.std.proofs.Common.{refl, subst}
-use Rattle.unftp_control.specs.Forwarding.{IsForwardError}
+use Rattle.unftp_control_write.specs.Forwarding.{IsForwardError}
 use Rattle.example_callers.specs.Forwarding.{refused}
 use Rattle.example_callers.proofs.proxy.forward_line.Goals as goal
 

@@ -1,5 +1,5 @@
 use Rattle.std.proofs.Common.{◌++◌, ap, ◌∙◌}
-use Rattle.unftp_control.specs.FtpReply.{encoded}
+use Rattle.unftp_control_defs.specs.FtpReply.{encoded}
 use Rattle.example_callers.proofs.whole_line.answer_line.Goals as goal
 
 pub returns-clause-line : goal.returns-clause-line

@@ -2,15 +2,15 @@ use Rattle.std.proofs.Common.{◌≡◌, [], inl, true, false, None, Some, Ok, E
 use Rattle.std.specs.List.{concat}
 use Rattle.std.proofs.lemmas.Bool.{false≢true}
 use Rattle.unftp_control.specs.ClientRuns.{asking, client_with}
-use Rattle.unftp_control.specs.Dialogue.{after_reply, agrees, first_owed}
-use Rattle.unftp_control.specs.Exchange.{IsNext, MayBeginTls}
-use Rattle.unftp_control.specs.Input.{InputState}
-use Rattle.unftp_control.specs.Receiving.{Receives}
-use Rattle.unftp_control.specs.ReplyDecoding.{TakesFirst, content}
-use Rattle.unftp_control.specs.declared.client.Client.{Client}
-use Rattle.unftp_control.specs.declared.client.ClientReply.{ClientReply}
-use Rattle.unftp_control.specs.declared.read.ReceiveError.{ReceiveError}
-use Rattle.unftp_control.proofs.ReplyLemmas.{FrontReply-front_of}
+use Rattle.unftp_control_client.specs.Dialogue.{after_reply, agrees, first_owed}
+use Rattle.unftp_control_client.specs.Exchange.{IsNext, MayBeginTls}
+use Rattle.unftp_control_defs.specs.Input.{InputState}
+use Rattle.unftp_control_read.specs.Receiving.{Receives}
+use Rattle.unftp_control_read.specs.ReplyDecoding.{TakesFirst, content}
+use Rattle.unftp_control_client.specs.declared.Client.{Client}
+use Rattle.unftp_control_client.specs.declared.dialogue.ClientReply.{ClientReply}
+use Rattle.unftp_control_read.specs.declared.errors.ReceiveError.{ReceiveError}
+use Rattle.unftp_control_defs.proofs.ReplyLemmas.{FrontReply-front_of}
 use Rattle.example_callers.specs.NextCode.{ReceivesAgreement}
 use Rattle.example_callers.proofs.examples.sessions.agreements_are_received_so.Goals as goal
 

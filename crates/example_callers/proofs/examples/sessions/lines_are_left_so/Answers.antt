@@ -1,10 +1,10 @@
 use Rattle.std.proofs.Common.{◌≡◌, inl, inr, [], None, codes, refl, sym, ap, ◌∙◌}
-use Rattle.unftp_control.specs.Bytes.{Bytes}
-use Rattle.unftp_control.specs.Events.{FtpEvent, Command}
-use Rattle.unftp_control.specs.FtpCommand.{Noop}
-use Rattle.unftp_control.specs.Lines.{incomplete_line, lines_of}
-use Rattle.unftp_control.specs.TakingSteps.{TakesEvent}
-use Rattle.unftp_control.proofs.LineLemmas.{Lines-lines_of}
+use Rattle.unftp_control_defs.specs.Bytes.{Bytes}
+use Rattle.unftp_control_defs.specs.Events.{FtpEvent, Command}
+use Rattle.unftp_control_defs.specs.FtpCommand.{Noop}
+use Rattle.unftp_control_defs.specs.Lines.{incomplete_line, lines_of}
+use Rattle.unftp_control_defs.specs.TakingSteps.{TakesEvent}
+use Rattle.unftp_control_defs.proofs.LineLemmas.{Lines-lines_of}
 use Rattle.unftp_control_defs.proofs.Computing.{at_bytes}
 use Rattle.example_callers.proofs.ExampleLemmas.{first_taken}
 use Rattle.example_callers.proofs.examples.sessions.lines_are_left_so.Goals as goal

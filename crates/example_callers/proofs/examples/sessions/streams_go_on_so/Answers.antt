@@ -1,5 +1,5 @@
 use Rattle.std.proofs.Common.{false, true, ◌++◌, Some, codes, length, refl, subst, sym, ap, ◌∙◌, arith}
-use Rattle.unftp_control.specs.Run.{as_session, text_for}
+use Rattle.unftp_control_defs.specs.Run.{as_session, text_for}
 use Rattle.example_callers.specs.UntilTls.{EndsWithAuth, until_tls}
 use Rattle.example_callers.proofs.TlsLemmas.{asked, asked-before, asked-replied}
 use Rattle.example_callers.proofs.examples.sessions.streams_go_on_so.Goals as goal

@@ -3,16 +3,16 @@ use Rattle.std.specs.Prelude.{if◌then◌else◌}
 use Rattle.std.specs.Str.{IsTrimAsciiEnd}
 use Rattle.std.proofs.lemmas.Bool.{false≢true}
 use Rattle.std.proofs.lemmas.Str.Ascii.{trim_ascii_end_is}
-use Rattle.unftp_control.specs.Bytes.{Bytes}
-use Rattle.unftp_control.specs.EventMeaning.{refuses_length}
-use Rattle.unftp_control.specs.Events.{FtpEvent, Command, event_for}
-use Rattle.unftp_control.specs.FtpCommand.{TypeCode}
-use Rattle.unftp_control.specs.FtpReply.{encoded}
-use Rattle.unftp_control.specs.Lines.{lines_of}
-use Rattle.unftp_control.specs.TakingSteps.{TakesEvent}
-use Rattle.unftp_control.specs.declared.command.Command.TheVariants as command
-use Rattle.unftp_control.specs.declared.serve.Event.TheVariants as event
-use Rattle.unftp_control.proofs.LineLemmas.{Lines-lines_of}
+use Rattle.unftp_control_defs.specs.Bytes.{Bytes}
+use Rattle.unftp_control_serve.specs.EventMeaning.{refuses_length}
+use Rattle.unftp_control_defs.specs.Events.{FtpEvent, Command, event_for}
+use Rattle.unftp_control_defs.specs.FtpCommand.{TypeCode}
+use Rattle.unftp_control_defs.specs.FtpReply.{encoded}
+use Rattle.unftp_control_defs.specs.Lines.{lines_of}
+use Rattle.unftp_control_defs.specs.TakingSteps.{TakesEvent}
+use Rattle.unftp_control_message.specs.declared.Command.TheVariants as command
+use Rattle.unftp_control_serve.specs.declared.event.Event.TheVariants as event
+use Rattle.unftp_control_defs.proofs.LineLemmas.{Lines-lines_of}
 use Rattle.example_callers.specs.FactList.{facts_asked}
 use Rattle.example_callers.specs.WholeLine.{AsksFor, modes_after, line_reply}
 use Rattle.example_callers.specs.declared.whole_line.Asked.{Asked}
