@@ -427,17 +427,18 @@ impl Command<'_> {
     }
 }
 
-/// What a log shows of it, as [`log_line`](crate::log_line): no password and no account. Of one that
-/// no line gives, only the verb.
+/// What a log shows of it, as [`log_line`](crate::log_line): no password and no account. Of a command
+/// that no line gives, only the verb, and `***` of one that is `Other`.
 impl Display for Command<'_> {
     fn fmt(&self, f: &mut Formatter<'_>) -> fmt::Result {
-        let line = self.to_line().or_else(|error| match (error, self) {
-            (Error::NoLine, Command::Other { .. }) => Ok(b"\r\n".to_vec()),
-            (Error::NoLine, command) => Ok(format!("{}\r\n", command.verb()).into_bytes()),
-            (error, _) => Err(error),
-        });
-        let text = line.and_then(|line| log::shown(self.number(), &line));
-        f.write_str(&text.map_err(|_| fmt::Error)?)
+        match (self.to_line(), self) {
+            (Ok(line), _) => {
+                f.write_str(&log::shown(self.number(), &line).map_err(|_| fmt::Error)?)
+            }
+            (Err(Error::NoLine), Command::Other { .. }) => f.write_str("***"),
+            (Err(Error::NoLine), _) => f.write_str(self.verb()),
+            (Err(_), _) => Err(fmt::Error),
+        }
     }
 }
 
