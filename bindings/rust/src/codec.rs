@@ -86,8 +86,9 @@ impl Decoder for FtpCodec {
     }
 }
 
-/// Of `Reply` only, so that `flush` and `close` of a sink need no type. A clone of a reply takes no
-/// memory where its text is the program's own.
+/// Of `Reply` only, so that `flush` and `close` of a sink need no type. A
+/// [`ProxyCodec`](crate::ProxyCodec) also sends replies that were received. A clone of a reply takes
+/// no memory where its text is the program's own.
 impl Encoder<Reply> for FtpCodec {
     type Error = CodecError;
 
