@@ -111,8 +111,10 @@ impl Encoder<Reply> for FtpCodec {
 ///
 /// A reply that is malformed or too long is an error, since nothing says where the next one begins.
 ///
-/// The place of a command is what [`sent`](FtpClientCodec::sent) was before it. No value comes with
-/// a line, as it may with that of a [`Client`](crate::Client): an item of a stream can't borrow it.
+/// The place of a command is what [`sent`](FtpClientCodec::sent) was before it: under `Framed`,
+/// `server.codec().sent()`. `examples/ask.rs` has `ask`, which sends a command so and awaits its
+/// final reply. No value comes with a line, as it may with that of a [`Client`](crate::Client): an
+/// item of a stream can't borrow it.
 ///
 /// As there are several encoders, `flush` and `close` of a sink want the type of one, any of them:
 ///
@@ -122,7 +124,7 @@ impl Encoder<Reply> for FtpCodec {
 /// use tokio_util::codec::Framed;
 /// use unftp_control::{CodecError, Command, FtpClientCodec, RawLine};
 ///
-/// async fn ask<S: AsyncRead + AsyncWrite + Unpin>(
+/// async fn send_two<S: AsyncRead + AsyncWrite + Unpin>(
 ///     server: &mut Framed<S, FtpClientCodec>,
 /// ) -> Result<(), CodecError> {
 ///     server.feed(Command::Feat).await?;
