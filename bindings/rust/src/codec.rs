@@ -73,9 +73,9 @@ impl Decoder for FtpCodec {
     type Error = CodecError;
 
     fn decode(&mut self, src: &mut BytesMut) -> Result<Option<Event<'static>>, CodecError> {
-        let taken = self.lines.take(src)?;
+        let taken = self.lines.take(src, Event::into_owned)?;
         src.advance(taken.used);
-        Ok(taken.event.map(Event::into_owned))
+        Ok(taken.event)
     }
 
     fn decode_eof(&mut self, src: &mut BytesMut) -> Result<Option<Event<'static>>, CodecError> {
