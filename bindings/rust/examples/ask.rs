@@ -61,7 +61,7 @@ impl From<CodecError> for AskError {
 ///
 /// What has come before the command is sent is no reply to it, and nothing is sent then: a 421 to a
 /// client that was idle too long is `Unexpected`. A 421 that comes later is the final reply, since
-/// it may be that to any command (RFC 959, section 5.4), and the next call finds the connection
+/// it may be that to any command (RFC 959, section 4.2.2), and the next call finds the connection
 /// closed.
 pub async fn ask<S, I>(server: &mut Framed<S, FtpClientCodec>, item: I) -> Result<Answer, AskError>
 where

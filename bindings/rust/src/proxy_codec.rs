@@ -8,7 +8,7 @@ use tokio_util::codec::{Decoder, Encoder};
 #[derive(Clone, Debug, PartialEq, Eq)]
 pub enum ProxyReply<'a> {
     /// A reply of the server. Its bytes are sent as they came, also those that are not UTF-8 and
-    /// those of a code that no [`ReplyCode`](crate::ReplyCode) has, as 631 (RFC 2228, section 4.4).
+    /// those of a code that no [`ReplyCode`](crate::ReplyCode) has, as 631 (RFC 2228, section 5.2).
     Received(ReceivedReply<'a>),
     /// A reply of the proxy's own.
     Own(Reply),
