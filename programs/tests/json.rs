@@ -1,6 +1,6 @@
 //! What a recorder writes of lines and replies.
 use serde_json::{json, to_value};
-use unftp_control::{Error, Pending, ReplyDecoder};
+use unftp_control::{Command, Error, Event, Pending, ReplyDecoder};
 
 #[test]
 fn events() -> Result<(), Error> {
@@ -26,4 +26,10 @@ fn replies() -> Result<(), Error> {
     let lines = ["Features:", " UTF8", " \u{fffd}", "End"];
     assert_eq!(to_value(&reply).expect("JSON"), json!({"code": 211, "lines": lines}));
     Ok(())
+}
+
+#[test]
+fn a_command_that_no_line_gives() {
+    let retr = Event::Command(Command::Retr { path: "a\nDELE b".into() });
+    assert_eq!(to_value(&retr).expect("JSON"), json!({"command": "RETR"}));
 }

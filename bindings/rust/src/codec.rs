@@ -73,9 +73,9 @@ impl Decoder for FtpCodec {
     type Error = CodecError;
 
     fn decode(&mut self, src: &mut BytesMut) -> Result<Option<Event<'static>>, CodecError> {
-        let taken = self.lines.take(src)?;
+        let taken = self.lines.take(src, Event::into_owned)?;
         src.advance(taken.used);
-        Ok(taken.event.map(Event::into_owned))
+        Ok(taken.event)
     }
 
     fn decode_eof(&mut self, src: &mut BytesMut) -> Result<Option<Event<'static>>, CodecError> {
@@ -86,8 +86,9 @@ impl Decoder for FtpCodec {
     }
 }
 
-/// Of `Reply` only, so that `flush` and `close` of a sink need no type. A clone of a reply takes no
-/// memory where its text is the program's own.
+/// Of `Reply` only, so that `flush` and `close` of a sink need no type. A
+/// [`ProxyCodec`](crate::ProxyCodec) also sends replies that were received. A clone of a reply takes
+/// no memory where its text is the program's own.
 impl Encoder<Reply> for FtpCodec {
     type Error = CodecError;
 
@@ -110,8 +111,10 @@ impl Encoder<Reply> for FtpCodec {
 ///
 /// A reply that is malformed or too long is an error, since nothing says where the next one begins.
 ///
-/// The place of a command is what [`sent`](FtpClientCodec::sent) was before it. No value comes with
-/// a line, as it may with that of a [`Client`](crate::Client): an item of a stream can't borrow it.
+/// The place of a command is what [`sent`](FtpClientCodec::sent) was before it: under `Framed`,
+/// `server.codec().sent()`. `examples/ask.rs` has `ask`, which sends a command so and awaits its
+/// final reply. No value comes with a line, as it may with that of a [`Client`](crate::Client): an
+/// item of a stream can't borrow it.
 ///
 /// As there are several encoders, `flush` and `close` of a sink want the type of one, any of them:
 ///
@@ -121,7 +124,7 @@ impl Encoder<Reply> for FtpCodec {
 /// use tokio_util::codec::Framed;
 /// use unftp_control::{CodecError, Command, FtpClientCodec, RawLine};
 ///
-/// async fn ask<S: AsyncRead + AsyncWrite + Unpin>(
+/// async fn send_two<S: AsyncRead + AsyncWrite + Unpin>(
 ///     server: &mut Framed<S, FtpClientCodec>,
 /// ) -> Result<(), CodecError> {
 ///     server.feed(Command::Feat).await?;

@@ -1,9 +1,9 @@
 use crate::bytes::{Password, RawBytes};
 use crate::error::Error;
-use crate::event::{Event, Line};
+use crate::event::Event;
+use crate::lines::Lines;
 use crate::log;
 use crate::parameters::{AuthParam, ModeParam, Opt, ProtParam, StruParam};
-use crate::pending::Pending;
 use crate::shown;
 use std::borrow::Cow;
 use std::fmt::{self, Debug, Display, Formatter};
@@ -381,14 +381,10 @@ impl Command<'_> {
     /// a path is empty; and [`Error::OutOfMemory`].
     pub fn to_line(&self) -> Result<Vec<u8>, Error> {
         let line = self.composed();
-        let mut pending = Pending::with_limit(0);
-        pending.push(&line)?;
-        let is_read_back = match pending.next_line()? {
-            Some(Line { event: Event::Command(command), bytes }) => {
-                command == *self && bytes.len() == line.len()
-            }
-            _ => false,
-        };
+        let mut lines = Lines::new(0);
+        let is_it = |event| matches!(event, Event::Command(command) if command == *self);
+        let taken = lines.take(&line, is_it)?;
+        let is_read_back = taken.event == Some(true) && taken.used == line.len();
         is_read_back.then_some(line).ok_or(Error::NoLine)
     }
 
@@ -399,13 +395,15 @@ impl Command<'_> {
             Command::Site { command, .. } => [b"SITE", command.as_bytes()],
             command => [command.verb().as_bytes(), b""],
         };
-        let mut line = words[0].to_vec();
         let value = match self {
             Command::Type => Some(Cow::Borrowed(&b"I"[..])),
             Command::Allo | Command::Pbsz => Some(Cow::Borrowed(&b"0"[..])),
             command => for_each_command!(value!(command)),
         };
         let value = value.filter(|value| !value.is_empty());
+        let value_len = value.as_ref().map_or(0, |value| value.len());
+        let mut line = Vec::with_capacity(words[0].len() + words[1].len() + value_len + 8);
+        line.extend_from_slice(words[0]);
         if !words[1].is_empty() || (words[0] == b"SITE" && value.is_some()) {
             line.push(b' ');
             line.extend_from_slice(words[1]);
@@ -415,9 +413,9 @@ impl Command<'_> {
             if matches!(self, Command::List { .. }) && value.first() == Some(&b'-') {
                 line.extend_from_slice(b"-- ");
             }
-            for byte in value.iter() {
-                line.push(*byte);
-                if *byte == b'\r' {
+            for part in value.split_inclusive(|byte| *byte == b'\r') {
+                line.extend_from_slice(part);
+                if part.ends_with(b"\r") {
                     line.push(0);
                 }
             }
@@ -427,17 +425,18 @@ impl Command<'_> {
     }
 }
 
-/// What a log shows of it, as [`log_line`](crate::log_line): no password and no account. Of one that
-/// no line gives, only the verb.
+/// What a log shows of it, as [`log_line`](crate::log_line): no password and no account. Of a command
+/// that no line gives, only the verb, and `***` of one that is `Other`.
 impl Display for Command<'_> {
     fn fmt(&self, f: &mut Formatter<'_>) -> fmt::Result {
-        let line = self.to_line().or_else(|error| match (error, self) {
-            (Error::NoLine, Command::Other { .. }) => Ok(b"\r\n".to_vec()),
-            (Error::NoLine, command) => Ok(format!("{}\r\n", command.verb()).into_bytes()),
-            (error, _) => Err(error),
-        });
-        let text = line.and_then(|line| log::shown(self.number(), &line));
-        f.write_str(&text.map_err(|_| fmt::Error)?)
+        match (self.to_line(), self) {
+            (Ok(line), _) => {
+                f.write_str(&log::shown(self.number(), &line).map_err(|_| fmt::Error)?)
+            }
+            (Err(Error::NoLine), Command::Other { .. }) => f.write_str("***"),
+            (Err(Error::NoLine), _) => f.write_str(self.verb()),
+            (Err(_), _) => Err(fmt::Error),
+        }
     }
 }
 

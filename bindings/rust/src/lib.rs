@@ -55,6 +55,10 @@
 //! [`Client`] toward the server, a line that the proxy answers itself waits until the
 //! [greeting](Client::is_greeted) is complete, [`owed`](Client::owed) is 0, and the proxy has passed
 //! on each reply that it has taken.
+#![cfg_attr(
+    feature = "tokio-util",
+    doc = "Under tokio a [`ProxyCodec`] sends the client the server's replies as they came."
+)]
 //!
 //! # Data connections
 //!
@@ -117,6 +121,8 @@ mod log;
 mod login;
 mod parameters;
 mod pending;
+#[cfg(feature = "tokio-util")]
+mod proxy_codec;
 mod received;
 mod reply;
 mod reply_decoder;
@@ -145,6 +151,8 @@ pub use log::{log_exchange, log_line};
 pub use login::{Login, LoginStep};
 pub use parameters::{AuthParam, ModeParam, Opt, ProtParam, StruParam};
 pub use pending::Pending;
+#[cfg(feature = "tokio-util")]
+pub use proxy_codec::{ProxyCodec, ProxyReply};
 pub use received::ReceivedReply;
 pub use reply::{front_reply, reply, FrontReply, Reply};
 pub use reply_decoder::{ReplyDecoder, REPLY_LIMIT};

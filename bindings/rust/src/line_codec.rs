@@ -90,10 +90,9 @@ impl Decoder for FtpLineCodec {
     type Error = CodecError;
 
     fn decode(&mut self, src: &mut BytesMut) -> Result<Option<OwnedLine>, CodecError> {
-        let taken = self.lines.take(src)?;
-        let (used, event) = (taken.used, taken.event.map(Event::into_owned));
-        let bytes = src.split_to(used).freeze();
-        Ok(event.map(|event| match event {
+        let taken = self.lines.take(src, Event::into_owned)?;
+        let bytes = src.split_to(taken.used).freeze();
+        Ok(taken.event.map(|event| match event {
             Event::Refused(Refusal::LineTooLong) => OwnedLine { event, bytes: Bytes::new() },
             event => OwnedLine { event, bytes },
         }))

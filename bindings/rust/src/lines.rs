@@ -21,10 +21,10 @@ pub(crate) struct Lines {
 }
 
 /// What `Lines` has taken.
-pub(crate) struct Taken<'a> {
+pub(crate) struct Taken<E> {
     /// How many bytes are used up, also where there is no event.
     pub(crate) used: usize,
-    pub(crate) event: Option<Event<'a>>,
+    pub(crate) event: Option<E>,
 }
 
 impl Lines {
@@ -45,16 +45,25 @@ impl Lines {
         self.connection.skipping != 0
     }
 
-    /// Takes the first line of the pending bytes.
+    /// Takes the first line of the pending bytes, and keeps of its event what this makes of it.
     // inlined, what it has taken is not moved
     #[inline]
-    pub(crate) fn take(&mut self, pending: &[u8]) -> Result<Taken<'_>, Error> {
+    pub(crate) fn take<'a, E>(
+        &'a mut self,
+        pending: &[u8],
+        keep: impl FnOnce(Event<'a>) -> E,
+    ) -> Result<Taken<E>, Error> {
         if self.connection.offset > pending.len() {
             // the owner has dropped bytes
             self.connection.offset = 0;
         }
-        if self.area.is_empty() {
-            grow(&mut self.area, AREA)?;
+        if pending.is_empty() {
+            return Ok(Taken { used: 0, event: None });
+        }
+        // a name and a value most often take no more bytes than their line
+        let expected = pending.len().min(LINE_LIMIT);
+        if self.area.len() < expected {
+            grow(&mut self.area, expected.max(AREA))?;
         }
         let (status, line) = loop {
             let (status, line) = ffi::next(&mut self.connection, pending, &mut self.area);
@@ -69,10 +78,10 @@ impl Lines {
         let event = match status {
             ffi::OUT_OF_MEMORY => return Err(Error::OutOfMemory),
             ffi::MORE => None,
-            _ => Some(match Refusal::of_status(status) {
+            _ => Some(keep(match Refusal::of_status(status) {
                 Some(refusal) => Event::Refused(refusal),
                 None => Event::Command(Command::of_line(status, name, &rest[..line.value_len])),
-            }),
+            })),
         };
         Ok(Taken { used: line.used, event })
     }
@@ -95,12 +104,32 @@ mod tests {
         let mut pending = Vec::new();
         for count in 1..=100 {
             pending.push(b'a');
-            assert_eq!(lines.take(&pending)?.used, 0);
+            assert_eq!(lines.take(&pending, drop)?.used, 0);
             assert_eq!(lines.connection.offset, count);
         }
         pending.push(b'\n');
-        assert_eq!(lines.take(&pending)?.used, 101);
+        assert_eq!(lines.take(&pending, drop)?.used, 101);
         assert_eq!(lines.connection.offset, 0);
+        Ok(())
+    }
+
+    #[test]
+    fn a_long_line_has_its_room_at_once() -> Result<(), Error> {
+        let mut lines = Lines::new(0);
+        for (path, area) in [(5, AREA), (4000, 4007), (100_000, 100_004), (5, 100_004)] {
+            let line = format!("RETR {}\r\n", "a".repeat(path));
+            assert_eq!(lines.take(line.as_bytes(), drop)?.used, path + 7);
+            assert_eq!(lines.area.len(), area);
+        }
+        Ok(())
+    }
+
+    #[test]
+    fn no_bytes_are_the_start_of_a_line() -> Result<(), Error> {
+        let mut lines = Lines::new(0);
+        assert_eq!(lines.take(b"AUTH", drop)?.used, 0);
+        assert_eq!(lines.take(b"", drop)?.used, 0);
+        assert_eq!(lines.take(b"\r\nNOOP\r\n", drop)?.used, 2);
         Ok(())
     }
 }

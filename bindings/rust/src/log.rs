@@ -38,10 +38,23 @@ pub fn log_line(event: &Event<'_>, line: &[u8]) -> Result<String, Error> {
 
 /// The log line of a line for which `unftp_next` returned this number.
 pub(crate) fn shown(number: u32, line: &[u8]) -> Result<String, Error> {
-    let bytes = written(line.len() + 16, |out| ffi::log_line(number, line, out))?;
+    let bytes = written(line_room(line), |out| ffi::log_line(number, line, out))?;
     Ok(String::from_utf8(bytes).unwrap_or_else(|_| {
         unreachable!("`log_lines_are_logged`: each byte of a log line is printable ASCII")
     }))
+}
+
+/// How many bytes the log line of a line most often takes at most: why it is refused takes 42, and
+/// the escape of a byte that is not ASCII four.
+fn line_room(line: &[u8]) -> usize {
+    let shown = if line.is_ascii() { line.len() } else { 4 * line.len() };
+    shown + 42
+}
+
+/// How many bytes an exchange most often takes at most. A CR LF within a reply is escaped.
+fn exchange_room(line: &str, replies: &[u8]) -> usize {
+    let line_feeds = replies.iter().filter(|byte| **byte == b'\n').count();
+    line.len() + replies.len() + 2 * line_feeds + 16
 }
 
 /// What a log shows of an exchange, a line of a client and its replies, in printable ASCII without a
@@ -80,7 +93,7 @@ pub(crate) fn shown(number: u32, line: &[u8]) -> Result<String, Error> {
 /// are not replies. [`Error::OutOfMemory`] may come in place of the last two.
 pub fn log_exchange(line: Option<&str>, replies: &[u8]) -> Result<String, Error> {
     let line = line.unwrap_or_default();
-    let expected = line.len() + replies.len() + 16;
+    let expected = exchange_room(line, replies);
     let bytes = written(expected, |out| ffi::log_exchange(line, replies, out))?;
     Ok(String::from_utf8(bytes).unwrap_or_else(|_| {
         unreachable!("`lines_of_exchanges_are_printable`: each byte is printable ASCII")
@@ -95,5 +108,37 @@ impl Line<'_> {
     /// [`Error::OutOfMemory`].
     pub fn log_line(&self) -> Result<String, Error> {
         log_line(&self.event, self.bytes)
+    }
+}
+
+#[cfg(test)]
+mod tests {
+    use super::*;
+    use crate::pending::Pending;
+
+    #[test]
+    fn usual_texts_need_no_second_call() -> Result<(), Error> {
+        for line in [
+            &b"\r\n"[..],
+            b"PASS secret\r\n",
+            b"RETR caf\xc3\xa9\r\n",
+            b"XCWD a\n",
+            b"NOOP x\r\n",
+            b"\xff\r\n",
+            b"LANG a\rb\r\n",
+            b"\xd0\xb0\xd0\xb1 \xff\r\n",
+        ] {
+            let mut pending = Pending::new();
+            pending.push(line)?;
+            let logged = pending.next_line()?.expect("a line").log_line()?;
+            assert!(logged.len() <= line_room(line), "{logged}");
+        }
+        let feat = b"211-Features:\r\n SIZE\r\n MDTM\r\n UTF8\r\n TVFS\r\n EPSV\r\n211 End\r\n";
+        for replies in [&b""[..], b"220 Ready\r\n", b"150 a\r\n226 b\r\n", b"257 \"/a\"\r\n", feat]
+        {
+            let logged = log_exchange(Some("PWD"), replies)?;
+            assert!(logged.len() <= exchange_room("PWD", replies), "{logged}");
+        }
+        Ok(())
     }
 }

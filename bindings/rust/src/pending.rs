@@ -44,7 +44,10 @@ impl Pending {
     ///
     /// [`Error::OutOfMemory`]; the pending bytes are then as before.
     pub fn push(&mut self, bytes: &[u8]) -> Result<(), Error> {
-        self.received.drain(..self.used);
+        match self.used == self.received.len() {
+            true => self.received.clear(),
+            false => drop(self.received.drain(..self.used)),
+        }
         (self.used, self.line) = (0, 0);
         self.received.try_reserve(bytes.len()).map_err(|_| Error::OutOfMemory)?;
         self.received.extend_from_slice(bytes);
@@ -57,7 +60,7 @@ impl Pending {
     ///
     /// [`Error::OutOfMemory`]; the line is then still pending.
     pub fn next_event(&mut self) -> Result<Option<Event<'_>>, Error> {
-        Ok(self.next_line()?.map(|line| line.event))
+        take_line(&mut self.lines, &self.received, &mut self.used, &mut self.line)
     }
 
     /// As [`next_event`](Pending::next_event), with the bytes of the line.
@@ -77,17 +80,9 @@ impl Pending {
     ///
     /// [`Error::OutOfMemory`]; the line is then still pending.
     pub fn next_line(&mut self) -> Result<Option<Line<'_>>, Error> {
-        self.line = 0;
-        let start = self.used;
-        let taken = self.lines.take(&self.received[start..])?;
-        self.used += taken.used;
-        let Some(event) = taken.event else {
-            return Ok(None);
-        };
-        if !matches!(event, Event::Refused(Refusal::LineTooLong)) {
-            self.line = taken.used;
-        }
-        Ok(Some(Line { event, bytes: &self.received[self.used - self.line..self.used] }))
+        let event = take_line(&mut self.lines, &self.received, &mut self.used, &mut self.line)?;
+        let bytes = &self.received[self.used - self.line..self.used];
+        Ok(event.map(|event| Line { event, bytes }))
     }
 
     /// The bytes of the line whose event the last call returned, its line feed among them: also
@@ -116,6 +111,23 @@ impl Pending {
         (self.used, self.line) = (0, 0);
         self.lines.restart();
     }
+}
+
+/// Takes the first line of the bytes that are not used up. Then `line` is how many bytes at the end of
+/// the used ones are that line: none where it is too long.
+fn take_line<'a>(
+    lines: &'a mut Lines,
+    received: &[u8],
+    used: &mut usize,
+    line: &mut usize,
+) -> Result<Option<Event<'a>>, Error> {
+    *line = 0;
+    let taken = lines.take(&received[*used..], |event| event)?;
+    *used += taken.used;
+    if !matches!(taken.event, None | Some(Event::Refused(Refusal::LineTooLong))) {
+        *line = taken.used;
+    }
+    Ok(taken.event)
 }
 
 impl Default for Pending {

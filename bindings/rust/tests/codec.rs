@@ -8,11 +8,13 @@ use futures_util::{SinkExt, StreamExt};
 use std::io;
 use std::pin::Pin;
 use std::task::{Context, Poll};
-use tokio::io::{AsyncRead, AsyncWriteExt, ReadBuf};
+use tokio::io::{
+    AsyncBufReadExt, AsyncRead, AsyncReadExt, AsyncWrite, AsyncWriteExt, BufReader, ReadBuf,
+};
 use tokio_util::codec::{Decoder, Encoder, Framed, FramedRead};
 use unftp_control::{
-    CodecError, Command, Error, Event, FtpClientCodec, FtpCodec, FtpLineCodec, RawLine, Refusal,
-    Reply, ReplyCode, To,
+    is_clear, CodecError, Command, Error, Event, FtpClientCodec, FtpCodec, FtpLineCodec,
+    ProxyCodec, RawLine, Refusal, Reply, ReplyCode, To,
 };
 
 /// A reader that gives one piece after the other, and then the end or an error.
@@ -402,4 +404,72 @@ async fn a_line_comes_with_its_event() {
         .map(|(event, bytes)| (event, &bytes[..]))
         .eq(expected.iter().map(|(event, bytes)| (event, *bytes))));
     assert_eq!(framed.read_buffer(), &b"QU"[..]);
+}
+
+#[test]
+fn each_reply_of_a_server_is_passed_on_as_it_came() -> Result<(), CodecError> {
+    let mut replies = 0;
+    for (words, _) in calls("server_replies.tsv", &["read"]) {
+        let stream = bytes(&words[0]);
+        let (mut server, mut client) = (FtpClientCodec::with_limit(0), ProxyCodec(FtpCodec::new()));
+        let (mut input, mut output) = (BytesMut::from(&stream[..]), BytesMut::new());
+        while let Ok(Some(taken)) = server.decode(&mut input) {
+            client.encode(taken.reply.into(), &mut output)?;
+            replies += 1;
+        }
+        output.extend_from_slice(&input);
+        assert_eq!(output, stream, "{words:?}");
+    }
+    assert!(replies > 9000, "{replies} replies");
+    Ok(())
+}
+
+/// Passes on what a server says, and answers each line that is not clear.
+async fn relay(
+    client: impl AsyncRead + AsyncWrite + Unpin,
+    server: impl AsyncRead + AsyncWrite + Unpin,
+) -> Result<(), CodecError> {
+    let mut client = Framed::new(client, ProxyCodec(FtpLineCodec::new()));
+    let mut server = Framed::new(server, FtpClientCodec::new());
+    while let Some(taken) = server.next().await.transpose()? {
+        client.feed(taken.reply.into()).await?;
+        client.flush().await?;
+        while server.codec().owed() == 0 {
+            let Some(line) = client.next().await.transpose()? else { return client.close().await };
+            if is_clear(&line.bytes) {
+                server.send(line.bytes.to_vec()).await?;
+            } else {
+                let reply = Reply::new(ReplyCode::COMMAND_SYNTAX_ERROR, "Not clear");
+                client.send(reply.into()).await?;
+            }
+        }
+    }
+    Ok(())
+}
+
+#[tokio::test]
+async fn a_proxy_sends_replies_of_both_kinds() -> Result<(), CodecError> {
+    let (near, to_client) = tokio::io::duplex(64);
+    let (to_server, far) = tokio::io::duplex(64);
+    let proxy = tokio::spawn(relay(to_client, to_server));
+    // a server that repeats each line after a code that no `Reply` has
+    let server = tokio::spawn(async move {
+        let (mut far, mut line) = (BufReader::new(far), Vec::new());
+        far.write_all(b"220-\xff\r\n 7\r\n8\r\n220 \r\n").await?;
+        while far.read_until(b'\n', &mut line).await? > 0 {
+            far.write_all(&[b"150 \xfe\r\n631 ", &line[..]].concat()).await?;
+            line.clear();
+        }
+        Ok::<(), io::Error>(())
+    });
+    let (mut reader, mut writer) = tokio::io::split(near);
+    writer.write_all(b"noop\r\nDELE\ta\r\ncwd \xe9\r\n").await?;
+    writer.shutdown().await?;
+    let mut output = Vec::new();
+    reader.read_to_end(&mut output).await?;
+    let greeting = &b"220-\xff\r\n 7\r\n8\r\n220 \r\n"[..];
+    let replies = &b"150 \xfe\r\n631 NOOP\r\n500 Not clear\r\n150 \xfe\r\n631 CWD \xe9\r\n"[..];
+    assert_eq!(output, [greeting, replies].concat());
+    proxy.await.expect("the proxy ends")?;
+    Ok(server.await.expect("the server ends")?)
 }

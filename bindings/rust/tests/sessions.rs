@@ -303,5 +303,25 @@ fn nothing_shows_a_password() {
     let lost = Command::Pass { password: b"s3cret\n".into() };
     shown += &format!("{lost} {lost:?}");
     assert!(!shown.contains("s3cret"), "{shown}");
-    assert_eq!((other.to_string(), lost.to_string()), ("***".into(), "PASS ***".into()));
+}
+
+#[test]
+fn a_command_that_no_line_gives_is_shown_as_its_verb() {
+    for (command, shown) in [
+        (Command::Retr { path: "".into() }, "RETR"),
+        (Command::Retr { path: "a\nb".into() }, "RETR"),
+        (Command::Md5 { file: "".into() }, "SITE"),
+        (Command::Site { command: "CHMOD".into(), arguments: "644\na".into() }, "SITE"),
+        (Command::List { options: Some("-l".into()), path: None }, "LIST"),
+        (Command::Stat { path: Some(b"".into()) }, "STAT"),
+        (Command::User { username: b"a\nb".into() }, "USER"),
+        (Command::Acct { account: b"a\nb".into() }, "ACCT"),
+        (Command::Pass { password: b"a\nb".into() }, "PASS"),
+        (Command::Other { command_name: "RETR".into(), arguments: "".into() }, "***"),
+        (Command::Other { command_name: "a".into(), arguments: "".into() }, "***"),
+        (Command::Other { command_name: "ADAT".into(), arguments: "a\nb".into() }, "***"),
+    ] {
+        assert_eq!(command.to_line(), Err(Error::NoLine), "{command:?}");
+        assert_eq!(command.to_string(), shown, "{command:?}");
+    }
 }
