@@ -146,7 +146,7 @@ pub use login::{Login, LoginStep};
 pub use parameters::{AuthParam, ModeParam, Opt, ProtParam, StruParam};
 pub use pending::Pending;
 pub use received::ReceivedReply;
-pub use reply::{front_reply, reply, FrontReply, Reply};
+pub use reply::{front_reply, quoted_path, reply, FrontReply, Reply};
 pub use reply_decoder::{ReplyDecoder, REPLY_LIMIT};
 
 /// The version of the proved library: `major * 1_000_000 + minor * 1_000 + patch`.
