@@ -1,11 +1,10 @@
 -- What is in an area after a text was written to it, and what is reported.
-use Rattle.std.proofs.Common.{◌≡◌, ◌≢◌, ℕ, ◌-◌, ◌^◌, ◌<◌, ◌≤◌, ◌==◌, if◌then◌else◌, List, [], ◌∷◌, ◌++◌, length, take, drop, get_or, Result, Ok, Err, Vec, Global, refl, sym, ap, subst, ◌∙◌, arith, append_assoc}
+use Rattle.std.proofs.Common.{◌≡◌, ◌≢◌, ℕ, ◌-◌, ◌^◌, ◌≤◌, ◌==◌, if◌then◌else◌, List, [], ◌∷◌, ◌++◌, length, take, drop, get_or, Result, Ok, Err, Vec, Global, refl, sym, ap, subst, ◌∙◌, arith, append_assoc}
 use Rattle.std.specs.Prelude.{nat_le, IfOk}
-use Rattle.std.proofs.lemmas.Bool.{cond_both, false≢true, leb-true, le-leb}
+use Rattle.std.proofs.lemmas.Bool.{cond_both}
 use Rattle.std.proofs.Math.Nat.{min-le_left}
 use Rattle.std.proofs.Math.Seq.{take-append_seam, drop-append_seam}
 use Rattle.unftp_control_defs.specs.Bytes.{Bytes}
-use Rattle.unftp_control_commands.specs.Areas.{HasText, overwritten}
 use Rattle.unftp_control_c.specs.declared.status.Status.{Status}
 use Rattle.unftp_control_c.specs.declared.status.Status.TheVariants.{Done, More, InvalidCommand, InvalidUtf8, InvalidEol, LineTooLong, OutOfMemory, NoRoom, NoLine, Malformed, UnknownCode, InvalidArgument, NoAddress, UnknownProtocol}
 use Rattle.unftp_control_c.specs.Numbers.{status_number}
@@ -37,37 +36,6 @@ filled_done text area = cond_both {A = Filled} (nat_le (length text) (length are
 -- its length is reported, whether there is room or not, as far as it can be counted
 pub filled_length : (text area : Bytes) → (filled text area).text_length ≤ length text
 filled_length text area = grind (arith, min-le_left (length text) (2 ^ 64 - 1))
-
--- what is left where a text was counted, and then written if there was room
-pub filled_without_room : {text area none : Bytes} {len : ℕ} → HasText [] text none len
-    → length area < len
-    → record { result = status_number NoRoom; area = area; text_length = len } ≡ filled text area
-filled_without_room {text} {area} {len = len} has lacks =
-    let long : length area < length text
-    = omega (arith, lacks, has.counts, min-le_left (length text) (2 ^ 64 - 1)) in
-    cond_both {A = Filled} (nat_le (length text) (length area)) _ _
-    (λ left. record { result = status_number NoRoom; area = area; text_length = len } ≡ left)
-    (λ room. absurd (omega (arith, long, leb-true (length text) (length area) room)))
-    (λ _ i. record {
-      result = status_number NoRoom;
-      area = area;
-      text_length = has.counts i;
-    })
-
-pub filled_with_room : {text area none after : Bytes} {len n : ℕ} → HasText [] text none len
-    → len ≤ length area → length area < 2 ^ 63 → HasText area text after n
-    → record { result = status_number Done; area = after; text_length = n } ≡ filled text area
-filled_with_room {text} {area} {after = after} {len = len} {n = n} has room small wrote =
-    let fits : length text ≤ length area = grind (arith, room, small, has.counts) in
-    let long : n ≡ length text = grind (arith, fits, small, wrote.counts) in
-    cond_both {A = Filled} (nat_le (length text) (length area)) _ _
-    (λ left. record { result = status_number Done; area = after; text_length = n } ≡ left)
-    (λ _ i. record {
-      result = status_number Done;
-      area = wrote.is fits i;
-      text_length = long i;
-    })
-    (λ lacks. absurd (false≢true (sym lacks ∙ le-leb (length text) (length area) fits)))
 
 -- any other status that is reported is why there is no text
 pub why_none : (bytes : Made) (area : Bytes) (status : Status) → status ≢ Done → status ≢ NoRoom

@@ -1,12 +1,10 @@
 -- The lines of a text, one after the other.
-use Rattle.std.proofs.Common.{◌≡◌, ◌-◌, ◌<◌, ◌==◌, if◌then◌else◌, ℕ, false, List, [], ◌∷◌, ◌++◌, length, refl, ap, arith, ne_eqb}
+use Rattle.std.proofs.Common.{◌≡◌, ◌<◌, ◌==◌, false, List, [], ◌∷◌, ◌++◌, length, refl, arith, ne_eqb}
 use Rattle.std.specs.List.{All, AllByRecursion, slice_split}
 use Rattle.std.specs.Str.Lines.{strip_carriage_return}
-use Rattle.std.proofs.Math.Seq.{take-append_seam}
-use Rattle.std.proofs.lemmas.List.{get_or_at, length_push}
 use Rattle.std.proofs.lemmas.List.Elements.{All-from_recursion}
 use Rattle.std.proofs.lemmas.List.Splits.{slice_split_none, slice_split_at, length-slice_split}
-use Rattle.unftp_control_defs.specs.Bytes.{Bytes, LF, CR, Lacks}
+use Rattle.unftp_control_defs.specs.Bytes.{Bytes, LF, Lacks}
 use Rattle.unftp_control_c.specs.Replies.{parts_as_lines, text_lines}
 
 none_is : (line : Bytes) → Lacks LF line → All (λ b. (b == LF) ≡ false) line
@@ -31,12 +29,3 @@ next_line text line after whole none =
 
 pub last_line : (text : Bytes) → Lacks LF text → text_lines text ≡ text ∷ []
 last_line text none = rw (slice_split_none (λ b. b == LF) text (none_is text none)) refl
-
--- a line by its last byte
-pub stripped_by_last : (line front : Bytes) (last : ℕ) → line ≡ front ++ last ∷ []
-    → strip_carriage_return line ≡ (if last == CR then front else line)
-stripped_by_last line front last whole =
-    let at : length line - 1 ≡ length front =
-    omega (arith, ap length whole, length_push front last) in
-    rw (at, whole, get_or_at front last [] 0 (length front) refl,
-      take-append_seam front (last ∷ [])) refl

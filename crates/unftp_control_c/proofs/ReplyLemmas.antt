@@ -1,5 +1,5 @@
 -- The bytes of a reply, line by line, and what a client finds in them.
-use Rattle.std.proofs.Common.{◌≡◌, ◌≢◌, ℕ, ◌-◌, ◌<◌, ◌≤◌, length, [], ◌∷◌, ◌++◌, ◌==◌, ◌&&◌, true, List, Ok, Err, decimal, refl, sym, ap, ◌∙◌, subst, take, arith, append_assoc}
+use Rattle.std.proofs.Common.{◌≡◌, ◌≢◌, ℕ, ◌-◌, ◌<◌, length, [], ◌∷◌, ◌++◌, ◌==◌, ◌&&◌, true, List, Ok, Err, decimal, refl, sym, ap, ◌∙◌, subst, take, arith, append_assoc}
 use Rattle.std.specs.Prelude.{nat_le, slice_index}
 use Rattle.std.specs.Str.Lines.{strip_carriage_return}
 use Rattle.std.specs.List.{AllByRecursion, join_with_byte, slice_split, onto_first}
@@ -105,9 +105,9 @@ opened code text {digits} is several =
     (λ lines. decimal code ++ DASH ∷ rest_of code lines ≡ encoded (MultiLine code lines))
     (λ _ _ _. refl)
 
-pub padded_piece : (text : Bytes) {padding line : Bytes} → padded line ≡ padding ++ line
+pub padded_piece : (text padding line : Bytes) → padded line ≡ padding ++ line
     → ((text ++ padding) ++ line) ++ crlf ≡ text ++ padded_line line
-padded_piece text {padding} {line} is =
+padded_piece text padding line is =
     append_assoc (text ++ padding) line crlf ∙ append_assoc text padding (line ++ crlf)
     ∙ ap (λ more. text ++ more) (sym (append_assoc padding line crlf)
     ∙ ap (λ found. found ++ crlf) (sym is))

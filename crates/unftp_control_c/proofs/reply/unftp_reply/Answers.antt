@@ -12,7 +12,8 @@ returns-then-not-is_reply_code-clause-writes c = c.write.ensures
 pub returns-then-not-is_reply_code-clause-read_back :
     goal.returns-then-not-is_reply_code-clause-read_back
 returns-then-not-is_reply_code-clause-read_back c =
-    reads_back _ _ _ _ (returns-then-not-is_reply_code-clause-writes c)
+    reads_back c.args.code c.args.text.now c.args.out.now _
+    (returns-then-not-is_reply_code-clause-writes c)
 
 pub returns-then-is_one_line-clause-writes : goal.returns-then-is_one_line-clause-writes
 returns-then-is_one_line-clause-writes c = c.write_line.ensures
@@ -22,7 +23,8 @@ returns-then-is_one_line-clause-writes c = c.write_line.ensures
 
 pub returns-then-is_one_line-clause-read_back : goal.returns-then-is_one_line-clause-read_back
 returns-then-is_one_line-clause-read_back c =
-    reads_back _ _ _ _ (returns-then-is_one_line-clause-writes c)
+    reads_back c.args.code c.args.text.now c.args.out.now _
+    (returns-then-is_one_line-clause-writes c)
 
 pub returns-clause-writes : goal.returns-clause-writes
 returns-clause-writes c = c.write_lines.ensures
@@ -32,4 +34,5 @@ returns-clause-writes c = c.write_lines.ensures
     (λ one. false≢true (c.if-is_one_line.ensures.1 one)))))
 
 pub returns-clause-read_back : goal.returns-clause-read_back
-returns-clause-read_back c = reads_back _ _ _ _ (returns-clause-writes c)
+returns-clause-read_back c = reads_back c.args.code c.args.text.now c.args.out.now _
+    (returns-clause-writes c)

@@ -1,4 +1,3 @@
-use Rattle.std.proofs.Common.{sym}
 use Rattle.unftp_control_commands.proofs.AreaLemmas.{cut_at, lacks_all}
 use Rattle.unftp_control_commands.proofs.pieces.cut.Goals as goal
 

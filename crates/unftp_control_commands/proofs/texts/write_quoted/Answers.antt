@@ -1,6 +1,6 @@
-use Rattle.std.proofs.Common.{◌++◌, [], ◌∷◌, refl, sym, ap, subst, ◌∙◌}
+use Rattle.std.proofs.Common.{◌++◌, [], ◌∷◌, refl, subst}
 use Rattle.unftp_control_commands.specs.Areas.{HasText}
-use Rattle.unftp_control_commands.specs.ReplyTexts.{QUOTE, quoted}
+use Rattle.unftp_control_commands.specs.ReplyTexts.{QUOTE}
 use Rattle.unftp_control_commands.proofs.AreaLemmas.{nothing}
 use Rattle.unftp_control_commands.proofs.QuoteLemmas.{last_part, next_part}
 use Rattle.unftp_control_commands.proofs.texts.write_quoted.Goals as goal
