@@ -102,7 +102,7 @@ enum unftp_result {
     UNFTP_MORE = 101,
     /* The line is no command: its verb doesn't take this parameter. */
     UNFTP_INVALID_COMMAND = 102,
-    /* The verb, the subcommand of SITE, AUTH's parameter or a reply's text is not UTF-8. */
+    /* The verb, the subcommand of SITE or AUTH's parameter is not UTF-8. */
     UNFTP_INVALID_UTF8 = 103,
     /* The line's end is not CR LF or LF; or a CR in its parameter, other than its first byte, is
        followed by neither LF nor NUL; or CR NUL is followed directly by LF. */

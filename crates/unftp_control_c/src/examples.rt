@@ -10,7 +10,7 @@ ghost use Rattle.unftp_control_c.specs.Next.{Leaves, LineMayTakeMemory, next_of,
 ghost use Rattle.unftp_control_c.specs.Numbers.{forward_status};
 ghost use Rattle.unftp_control_c.specs.Rows.{a_call, leaving};
 ghost use Rattle.unftp_control_c.specs.Replies.{IsFoundText, found_text, reply_bytes, text_lines, text_reply};
-ghost use Rattle.unftp_control_c.specs.declared.status.Status.TheVariants.{InvalidCommand, InvalidEol, InvalidUtf8, Malformed, More, NoLine, OutOfMemory, UnknownCode};
+ghost use Rattle.unftp_control_c.specs.declared.status.Status.TheVariants.{InvalidCommand, InvalidEol, Malformed, More, NoLine, OutOfMemory, UnknownCode};
 
 pub mod addresses;
 pub mod calls;
