@@ -102,7 +102,7 @@ enum unftp_result {
     UNFTP_MORE = 101,
     /* The line is no command: its verb doesn't take this parameter. */
     UNFTP_INVALID_COMMAND = 102,
-    /* The verb, the subcommand of SITE, AUTH's parameter or a reply's text is not UTF-8. */
+    /* The verb, the subcommand of SITE or AUTH's parameter is not UTF-8. */
     UNFTP_INVALID_UTF8 = 103,
     /* The line's end is not CR LF or LF; or a CR in its parameter, other than its first byte, is
        followed by neither LF nor NUL; or CR NUL is followed directly by LF. */
@@ -334,12 +334,13 @@ enum unftp_result unftp_next(struct unftp_connection *connection,
 
 /*
  * Writes the bytes of a reply to the start of out, and *len is how many they are (RFC 959, section
- * 4.2). The code is any number from 100 to 599. The text is of one line, or of several that are
- * divided by line feeds; a CR directly before a line feed belongs to the line's end, so "a\r\nb" and
- * "a\nb" are the lines a and b. It returns UNFTP_DONE; UNFTP_UNKNOWN_CODE for another number;
- * UNFTP_INVALID_UTF8; UNFTP_NO_ROOM, where *len is the room that is needed; or UNFTP_OUT_OF_MEMORY,
- * but never for a text of one line. out is as it was but at UNFTP_DONE. A text of n bytes needs at
- * most n + 6 where it is of one line, and at most n + 2 k + 10 where it has k line feeds.
+ * 4.2). The code is any number from 100 to 599. The text has any bytes, also such that are not
+ * UTF-8, as a file name in Latin-1 has. It is of one line, or of several that are divided by line
+ * feeds; a CR directly before a line feed belongs to the line's end, so "a\r\nb" and "a\nb" are the
+ * lines a and b. It returns UNFTP_DONE; UNFTP_UNKNOWN_CODE for another number; or UNFTP_NO_ROOM,
+ * where *len is the room that is needed, or SIZE_MAX where that is more. out is as it was but at
+ * UNFTP_DONE. A text of n bytes needs at most n + 6 where it is of one line, and at most
+ * n + 2 k + 10 where it has k line feeds. It takes no memory.
  *
  * A client that reads by RFC 959 finds in these bytes exactly this reply, whatever the text holds:
  * any other CR of it is written as it is, and a line before the last that begins with a digit
@@ -347,6 +348,21 @@ enum unftp_result unftp_next(struct unftp_connection *connection,
  */
 enum unftp_result unftp_reply(uint32_t code, const char *text, size_t text_len,
                               char *out, size_t out_room, size_t *len) UNFTP_NONNULL;
+
+/*
+ * Writes a path between double quotes, with each double quote in it doubled, to the start of out,
+ * and *len is how many bytes that is: the text of the replies 257 to PWD and MKD (RFC 959, section
+ * 5.4 and appendix II). The path has any bytes. For the path a"b
+ *
+ *     unftp_quoted_path("a\"b", 3, text, sizeof text, &text_len);
+ *     unftp_reply(UNFTP_CODE_DIR_CREATED, text, text_len, reply, sizeof reply, &reply_len);
+ *
+ * writes 257 "a""b". It returns UNFTP_DONE; or UNFTP_NO_ROOM, where *len is the room that is
+ * needed, or SIZE_MAX where that is more, and out is as it was. A path of n bytes needs at most
+ * 2 n + 2. It takes no memory.
+ */
+enum unftp_result unftp_quoted_path(const char *path, size_t path_len,
+                                    char *out, size_t out_room, size_t *len) UNFTP_NONNULL;
 
 /*
  * Finds the reply at the start of what a client has received (RFC 959, section 4.2). It returns

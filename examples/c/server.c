@@ -197,17 +197,12 @@ static bool end_session(struct client *client, const char *reply)
 /* Sends the reply with this text; false where the session is over. */
 static bool send_reply(struct client *client, enum unftp_code code, const char *text, size_t len)
 {
-    static const char not_utf8[] = "501 Not UTF-8\r\n";
     char reply[REPLY_ROOM];
     size_t reply_len;
     enum unftp_result result = unftp_reply(code, text, len, reply, sizeof reply, &reply_len);
 
     if (result == UNFTP_DONE)
         return send_bytes(client, reply, reply_len);
-    if (result == UNFTP_INVALID_UTF8) /* the value of STAT may be any bytes */
-        return send_bytes(client, not_utf8, sizeof not_utf8 - 1);
-    if (result == UNFTP_OUT_OF_MEMORY)
-        return end_session(client, "421 Out of memory\r\n");
     /* the codes are those of this program, and its texts with line feeds are short */
     fprintf(stderr, "server: unftp_reply: %s\n", unftp_result_text(result));
     abort();

@@ -44,7 +44,7 @@ class Control:
                 raise Wrong(f"the connection ends after {self.received!r}")
             self.received += piece
         line, _, self.received = self.received.partition(b"\n")
-        return line.decode("utf-8", "replace").rstrip("\r")
+        return line.decode("utf-8", "surrogateescape").rstrip("\r")
 
     def reply(self):
         """The code and the text of the next reply."""

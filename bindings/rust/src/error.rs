@@ -40,9 +40,9 @@ impl Error {
             _ => match Refusal::of_status(status) {
                 Some(refusal) => Error::Refused(refusal),
                 None => unreachable!(
-                    "`EncodesReply`, `IsCanonical`, `IsForwardedLine`, `IsExchangeLine` and \
-                     `IsWrittenBy` leave no status {status} for a code from 100 to 599, a text that \
-                     is UTF-8, and an address of its form's length"
+                    "`reply_bytes`, `IsCanonical`, `IsForwardedLine`, `IsExchangeLine` and \
+                     `IsWrittenBy` leave no status {status} for a code from 100 to 599 and an \
+                     address of its form's length"
                 ),
             },
         }

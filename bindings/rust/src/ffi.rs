@@ -138,6 +138,15 @@ extern "C" {
         len: *mut usize,
     ) -> u32;
 
+    #[cfg_attr(not(feature = "system"), link_name = own_name!("quoted_path"))]
+    fn unftp_quoted_path(
+        path: *const u8,
+        path_len: usize,
+        out: *mut u8,
+        out_room: usize,
+        len: *mut usize,
+    ) -> u32;
+
     #[cfg_attr(not(feature = "system"), link_name = own_name!("front_reply"))]
     fn unftp_front_reply(bytes: *const u8, bytes_len: usize, reply: *mut FoundReply) -> u32;
 
@@ -269,13 +278,25 @@ pub(crate) fn next(connection: &mut Connection, bytes: &[u8], area: &mut [u8]) -
 }
 
 /// Calls `unftp_reply`: what it returns, and the length.
-pub(crate) fn reply(code: u32, text: &str, out: &mut [u8]) -> (u32, usize) {
+pub(crate) fn reply(code: u32, text: &[u8], out: &mut [u8]) -> (u32, usize) {
     check_version();
     let mut len = 0;
     // SAFETY: no pointer is null, since each is of a reference, and each length is that of the
     // slice beside it. Nothing overlaps: `out` is mutably borrowed, and `len` is a variable here.
     let status = unsafe {
         unftp_reply(code, text.as_ptr(), text.len(), out.as_mut_ptr(), out.len(), &mut len)
+    };
+    (status, len)
+}
+
+/// Calls `unftp_quoted_path`: what it returns, and the length.
+pub(crate) fn quoted_path(path: &[u8], out: &mut [u8]) -> (u32, usize) {
+    check_version();
+    let mut len = 0;
+    // SAFETY: no pointer is null, since each is of a reference, and each length is that of the
+    // slice beside it. Nothing overlaps: `out` is mutably borrowed, and `len` is a variable here.
+    let status = unsafe {
+        unftp_quoted_path(path.as_ptr(), path.len(), out.as_mut_ptr(), out.len(), &mut len)
     };
     (status, len)
 }

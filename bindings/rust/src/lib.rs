@@ -154,7 +154,7 @@ pub use pending::Pending;
 #[cfg(feature = "tokio-util")]
 pub use proxy_codec::{ProxyCodec, ProxyReply};
 pub use received::ReceivedReply;
-pub use reply::{front_reply, reply, FrontReply, Reply};
+pub use reply::{front_reply, quoted_path, reply, FrontReply, Reply};
 pub use reply_decoder::{ReplyDecoder, REPLY_LIMIT};
 
 /// The version of the proved library: `major * 1_000_000 + minor * 1_000 + patch`.

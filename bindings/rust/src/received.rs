@@ -75,9 +75,19 @@ impl ReceivedReply<'_> {
 /// Shows each line as that of [`RawBytes`]: between double quotes, and escaped once.
 impl Debug for ReceivedReply<'_> {
     fn fmt(&self, f: &mut Formatter<'_>) -> fmt::Result {
-        let lines: Vec<RawBytes<'_>> = self.lines().map(RawBytes::from).collect();
-        f.debug_struct("ReceivedReply").field("code", &self.code).field("lines", &lines).finish()
+        fmt_reply(f, "ReceivedReply", self.code, self.lines())
     }
+}
+
+/// Shows a reply by its code and its lines.
+pub(crate) fn fmt_reply<'a>(
+    f: &mut Formatter<'_>,
+    name: &str,
+    code: u16,
+    lines: impl Iterator<Item = &'a [u8]>,
+) -> fmt::Result {
+    let lines: Vec<RawBytes<'_>> = lines.map(RawBytes::from).collect();
+    f.debug_struct(name).field("code", &code).field("lines", &lines).finish()
 }
 
 /// Where the first CR LF from this place on begins.

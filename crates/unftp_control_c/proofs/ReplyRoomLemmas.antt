@@ -1,7 +1,9 @@
 -- How many bytes the reply of a text has.
-use Rattle.std.proofs.Common.{ℕ, ◌+◌, ◌-◌, ◌*◌, ◌<◌, ◌≤◌, ◌==◌, List, [], ◌∷◌, ◌++◌, length, decimal, Ok, Err, inl, inr, arith, length-append}
+use Rattle.std.proofs.Common.{ℕ, ◌+◌, ◌-◌, ◌*◌, ◌<◌, ◌≤◌, ◌==◌, ◌&&◌, List, [], ◌∷◌, ◌++◌, length, decimal, Ok, Err, ap, arith, length-append}
+use Rattle.std.specs.Prelude.{nat_le}
 use Rattle.std.specs.List.{count_by, join_with_byte, slice_split}
 use Rattle.std.specs.Str.Lines.{strip_carriage_return}
+use Rattle.std.proofs.lemmas.Bool.{cond_both}
 use Rattle.std.proofs.lemmas.Fmt.{length-decimal-le}
 use Rattle.std.proofs.lemmas.List.{length-take}
 use Rattle.std.proofs.lemmas.List.Splits.{join_with_byte-slice_split, length-slice_split}
@@ -9,9 +11,12 @@ use Rattle.unftp_control_defs.specs.Bytes.{Bytes, LF, SP, DASH, Lacks, crlf}
 use Rattle.unftp_control_defs.specs.FtpReply.{CodeAndMsg, MultiLine, encoded, lines_after_code, padded, spaced_line}
 use Rattle.unftp_control_codecs.specs.LineFeed.{is_line_feed}
 use Rattle.unftp_control_codecs.specs.ReplyCodes.{IsReplyCode}
-use Rattle.unftp_control_c.specs.Areas.{Made, written}
+use Rattle.unftp_control_commands.specs.ReplyTexts.{QUOTE, doubled, quoted}
+use Rattle.unftp_control_c.specs.declared.status.Status.TheVariants.{UnknownCode}
+use Rattle.unftp_control_c.specs.Areas.{Made, filled, written}
+use Rattle.unftp_control_c.specs.Replies.{parts_as_lines, reply_bytes, reply_of_lines, text_reply}
 use Rattle.unftp_control_c.proofs.AreaLemmas.{filled_length}
-use Rattle.unftp_control_c.specs.Replies.{EncodesReply, parts_as_lines, lines_reply}
+use Rattle.unftp_control_c.proofs.ReplyLemmas.{code_is, one_reply}
 
 stripped_length : (line : Bytes) → length (strip_carriage_return line) ≤ length line
 stripped_length line = grind (arith, length-take (length line - 1) line)
@@ -90,22 +95,50 @@ module _ (code : ℕ) (is_code : IsReplyCode code) where
   one_length text =
       grind (arith, digits, last_length text, length-append (decimal code) crlf)
 
-  several_length : (text : Bytes) → length (encoded (lines_reply code text))
+  parts_reply : (parts : List Bytes) → 0 < length parts
+      → length (encoded (reply_of_lines code (parts_as_lines parts)))
+      ≤ length (join_with_byte LF parts) + 2 * (length parts - 1) + 10
+  parts_reply [] some = absurd (omega (arith, some))
+  parts_reply (part ∷ []) some = omega (arith, one_length part)
+  parts_reply (part ∷ next ∷ []) some = parts_length (part ∷ next ∷ []) some
+  parts_reply (part ∷ next ∷ more ∷ parts) some = parts_length (part ∷ next ∷ more ∷ parts) some
+
+  reply_length : (text : Bytes) → length (encoded (text_reply code text))
       ≤ length text + 2 * count_by is_line_feed text + 10
-  several_length text =
+  reply_length text =
       let count = length-slice_split (λ b. b == LF) text in
       let whole = rw (join_with_byte-slice_split LF text) at
-      (parts_length (slice_split (λ b. b == LF) text) (omega (arith, count))) in
+      (parts_reply (slice_split (λ b. b == LF) text) (omega (arith, count))) in
       omega (arith, count, whole)
 
-pub reply_room : (code : ℕ) (text : Bytes) (bytes : Made) (out : Bytes)
-    → EncodesReply code text bytes
-    → ((written bytes out).text_length ≤ length text + 2 * count_by is_line_feed text + 10)
-    × (Lacks LF text → (written bytes out).text_length ≤ length text + 6)
-reply_room code text (Ok bytes) out (is_code, utf8, reply, inl one, e) =
-    let short = one_length code is_code text in
-    rw (e, filled_length (encoded reply) out, one.1) (omega (arith, short), λ lacks. short)
-reply_room code text (Ok bytes) out (is_code, utf8, reply, inr several, e) =
-    rw (e, filled_length (encoded reply) out, several.1)
-    (several_length code is_code text, λ lacks. absurd (several.0 lacks))
-reply_room code text (Err status) out why = (omega arith, λ lacks. omega arith)
+pub reply_room : (code : ℕ) (text out : Bytes)
+    → ((written (reply_bytes code text) out).text_length
+    ≤ length text + 2 * count_by is_line_feed text + 10)
+    × (Lacks LF text → (written (reply_bytes code text) out).text_length ≤ length text + 6)
+reply_room code text out = cond_both {A = Made} (nat_le 100 code && nat_le code 599)
+    (Ok (encoded (text_reply code text))) (Err UnknownCode)
+    (λ found. ((written found out).text_length
+    ≤ length text + 2 * count_by is_line_feed text + 10)
+    × (Lacks LF text → (written found out).text_length ≤ length text + 6))
+    (λ is. let reported = filled_length (encoded (text_reply code text)) out in (
+      omega (arith, reported, reply_length code (code_is code is) text),
+      λ one. omega (
+        arith,
+        reported,
+        ap (λ reply. length (encoded reply)) (one_reply code text one),
+        one_length code (code_is code is) text,
+      ),
+    ))
+    (λ _. (omega arith, λ one. omega arith))
+
+doubled_length : (path : Bytes) → length (doubled path) ≤ 2 * length path
+doubled_length [] = omega arith
+doubled_length (b ∷ path) = grind (arith, doubled_length path)
+
+pub quoted_room : (path out : Bytes) → (filled (quoted path) out).text_length ≤ 2 * length path + 2
+quoted_room path out = omega (
+  arith,
+  filled_length (quoted path) out,
+  doubled_length path,
+  length-append (doubled path) (QUOTE ∷ []),
+)

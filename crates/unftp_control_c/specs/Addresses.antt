@@ -9,7 +9,8 @@ use Rattle.unftp_control_defs.specs.Bytes.{Bytes}
 use Rattle.unftp_control_address.specs.Extended.{IsExtended, IsRefused, extended_port, extended_port_text, extended_text}
 use Rattle.unftp_control_address.specs.HostPorts.{first_host_port, host_port, host_port_text}
 use Rattle.unftp_control_address.specs.declared.extended.AddressError.TheVariants as why
-use Rattle.unftp_control_c.specs.Areas.{Made, overwritten}
+use Rattle.unftp_control_commands.specs.Areas.{overwritten}
+use Rattle.unftp_control_c.specs.Areas.{Made}
 use Rattle.unftp_control_c.specs.Numbers.{status_number}
 use Rattle.unftp_control_c.specs.declared.address.Form.{Form}
 use Rattle.unftp_control_c.specs.declared.address.Form.TheVariants.{Port, Eprt, Reply227, Reply229}

@@ -1,15 +1,12 @@
 -- What a call leaves in an area of the caller's, a part of memory that has some length.
-use Rattle.std.specs.Prelude.{ℕ, if◌then◌else◌, ◌++◌, length, drop, nat_le, Result, Ok, Err}
+use Rattle.std.specs.Prelude.{ℕ, if◌then◌else◌, length, nat_le, Result, Ok, Err}
 use Rattle.std.specs.declared.vec.Vec.{Vec}
 use Rattle.std.specs.declared.alloc.Global.{Global}
 use Rattle.unftp_control_defs.specs.Bytes.{Bytes}
+use Rattle.unftp_control_commands.specs.Areas.{counted, overwritten}
 use Rattle.unftp_control_c.specs.declared.status.Status.{Status}
 use Rattle.unftp_control_c.specs.declared.status.Status.TheVariants.{Done, NoRoom}
 use Rattle.unftp_control_c.specs.Numbers.{status_number}
-
--- the text is at the start, and what follows it stays
-abbrev pub overwritten : Bytes → Bytes → Bytes
-overwritten text area = text ++ drop (length text) area
 
 -- what is reported, the area, and how many bytes the text has
 pub record Filled : Type 0 where
@@ -18,7 +15,7 @@ pub record Filled : Type 0 where
   pub text_length : ℕ
 
 -- A text is written where the area has room for it. Else the area stays, and the length is the room
--- that there has to be.
+-- that there has to be: 2^64 - 1, which no area has, stands for more than that.
 abbrev pub filled : Bytes → Bytes → Filled
 filled text area = if nat_le (length text) (length area)
     then record {
@@ -26,7 +23,7 @@ filled text area = if nat_le (length text) (length area)
       area = overwritten text area;
       text_length = length text;
     }
-    else record { result = status_number NoRoom; area = area; text_length = length text }
+    else record { result = status_number NoRoom; area = area; text_length = counted text }
 
 -- a text that is to be written, or why there is none
 abbrev pub Made : Type 0

@@ -16,7 +16,7 @@ use Rattle.unftp_control_c.specs.declared.next.Line.{Line}
 use Rattle.unftp_control_c.specs.declared.status.Status.{Status}
 use Rattle.unftp_control_c.specs.declared.status.Status.TheVariants.{More, OutOfMemory, NoRoom, InvalidArgument}
 use Rattle.unftp_control_c.specs.Numbers.{status_number, fault_status}
-use Rattle.unftp_control_c.specs.Areas.{overwritten}
+use Rattle.unftp_control_commands.specs.Areas.{overwritten}
 
 pub record Call : Type 0 where
   -- what the caller keeps of the connection

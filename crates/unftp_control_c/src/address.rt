@@ -7,7 +7,7 @@ ghost use Rattle.unftp_control_c.specs.declared.address.Form.TheVariants.{Eprt, 
 ghost use Rattle.unftp_control_c.specs.declared.status.Status.{Status as RustStatus};
 ghost use Rattle.unftp_control_c.specs.declared.status.Status.TheVariants.{InvalidArgument, OutOfMemory};
 
-use crate::areas::{overwrite, write};
+use crate::areas::write;
 use crate::status::Status;
 use std::alloc::{AllocError, Global};
 use std::net::{IpAddr, Ipv4Addr, Ipv6Addr, SocketAddr, SocketAddrV4};
@@ -15,6 +15,7 @@ use unftp_control_address::{
     AddressError, find_extended_port, find_host_port, read_extended, read_host_port,
     write_extended, write_extended_port, write_host_port,
 };
+use unftp_control_commands::pieces::overwrite;
 
 /// Where an address is read from, or written for: `enum unftp_address_form` of
 /// include/unftp_control.h.

@@ -1,15 +1,16 @@
 //! Examples of the definitions, worked out by hand: what calls leave, at the boundary.
 #![tactic(auto, unfolding(unftp_control_defs::proofs::Computing::at_bytes))]
 
-ghost use Rattle.std.specs.Prelude.{◌≡◌, [], ◌∷◌, Ok, Err, codes};
+ghost use Rattle.std.specs.Prelude.{◌≡◌, [], ◌∷◌, ◌++◌, Ok, Err, codes};
 ghost use Rattle.unftp_control_defs.specs.FtpReply.{CodeAndMsg, MultiLine};
+ghost use Rattle.unftp_control_commands.specs.Areas.{HasText};
 ghost use Rattle.unftp_control_c.specs.CanonicalLines.{CanonicalMayTakeMemory, IsCanonical};
 ghost use Rattle.unftp_control_c.specs.ForwardedLines.{IsForwardedLine};
 ghost use Rattle.unftp_control_c.specs.Next.{Leaves, LineMayTakeMemory, next_of, scans};
 ghost use Rattle.unftp_control_c.specs.Numbers.{forward_status};
 ghost use Rattle.unftp_control_c.specs.Rows.{a_call, leaving};
-ghost use Rattle.unftp_control_c.specs.Replies.{EncodesReply, IsFoundText, IsReplyText, found_text, text_lines};
-ghost use Rattle.unftp_control_c.specs.declared.status.Status.TheVariants.{InvalidCommand, InvalidEol, InvalidUtf8, Malformed, More, NoLine, OutOfMemory, UnknownCode};
+ghost use Rattle.unftp_control_c.specs.Replies.{IsFoundText, found_text, reply_bytes, text_lines, text_reply};
+ghost use Rattle.unftp_control_c.specs.declared.status.Status.TheVariants.{InvalidCommand, InvalidEol, Malformed, More, NoLine, OutOfMemory, UnknownCode};
 
 pub mod addresses;
 pub mod calls;
@@ -70,16 +71,25 @@ pub fn some_lines_may_take_memory()
 
 /// Replies of one line and of several, and what is no code.
 pub fn replies_have_codes_and_lines()
-    ensures sixth_kind { EncodesReply 600 [] (Err UnknownCode) }
-    ensures not_encoded { ¬ EncodesReply 600 [] (Ok (codes "600\r\n")) }
-    ensures code_without_a_name { EncodesReply 299 [] (Ok (codes "299\r\n")) }
-    ensures not_utf8 { EncodesReply 200 (255 ∷ []) (Err InvalidUtf8) }
-    ensures memory { EncodesReply 200 [] (Err OutOfMemory) }
-    ensures no_memory { ¬ EncodesReply 600 [] (Err OutOfMemory) }
-    ensures one_line { IsReplyText 200 (codes "a") (CodeAndMsg 200 (codes "a")) }
-    ensures two_lines { IsReplyText 200 (codes "a\n") (MultiLine 200 (codes "a" ∷ [] ∷ [])) }
-    ensures cr_of_no_line { ¬ IsReplyText 200 (codes "a\r\nb")
-        (MultiLine 200 (codes "a\r" ∷ codes "b" ∷ [])) }
+    ensures sixth_kind { reply_bytes 600 [] ≡ Err UnknownCode }
+    ensures not_encoded { ¬ (reply_bytes 600 [] ≡ Ok (codes "600\r\n")) }
+    ensures code_without_a_name { reply_bytes 299 [] ≡ Ok (codes "299\r\n") }
+    // the second line begins with a digit; no byte is dropped that isn't UTF-8
+    ensures latin_1 { reply_bytes 200 (233 ∷ codes "\n2\n" ++ 255 ∷ [])
+        ≡ Ok (codes "200-" ++ 233 ∷ codes "\r\n 2\r\n200 " ++ 255 ∷ codes "\r\n") }
+    ensures one_line { text_reply 200 (codes "a") ≡ CodeAndMsg 200 (codes "a") }
+    ensures two_lines { text_reply 200 (codes "a\n")
+        ≡ MultiLine 200 (codes "a" ∷ [] ∷ []) }
+    ensures cr_of_no_line { ¬ (text_reply 200 (codes "a\r\nb")
+        ≡ MultiLine 200 (codes "a\r" ∷ codes "b" ∷ [])) }
+{}
+
+/// Areas to which texts are written, with room and without.
+pub fn areas_have_texts()
+    ensures written { HasText (codes "xyz") (codes "ab") (codes "abz") 2 }
+    ensures not_written { ¬ HasText (codes "xyz") (codes "ab") (codes "xyz") 2 }
+    ensures no_room { HasText (codes "x") (codes "ab") (codes "x") 2 }
+    ensures no_part { ¬ HasText (codes "x") (codes "ab") (codes "x") 1 }
 {}
 
 /// The lines of replies that were received.

@@ -10,6 +10,7 @@ ghost use Rattle.unftp_control_defs.specs.Said.{HasTypedFields};
 ghost use Rattle.unftp_control_defs.specs.Lines.{IsLine};
 ghost use Rattle.unftp_control_codecs.specs.LineFeed.{is_line_feed, line_feed_from};
 ghost use Rattle.unftp_control_defs.specs.Turns.{is_preliminary};
+ghost use Rattle.unftp_control_commands.specs.ReplyTexts.{quoted};
 ghost use Rattle.unftp_control_client.specs.Dialogue.{after_command, after_reply, commands_owed, next_to};
 ghost use Rattle.unftp_control_client.specs.ForwardingSteps.{Answered, AreForwardingSteps, ForwardingStep, IsForwardingStep, Passed, replies_given};
 ghost use Rattle.unftp_control_client.specs.Steps.{AreDialogueSteps, AreExchanges, ClientStep, EndsInAgreement, ReplyTo, SentLine, Took, replies_owed};
@@ -18,14 +19,14 @@ ghost use Rattle.unftp_control_log.specs.Known.{known};
 ghost use Rattle.unftp_control_log.specs.LogLine.{IsPrintable, logged};
 ghost use Rattle.unftp_control_login.specs.Gate.{decided, stage_after};
 ghost use Rattle.unftp_control_login.specs.Login.{Accounts, IsLoggedIn, is_login, needs_login};
-ghost use Rattle.unftp_control_c.specs.Areas.{Made, written};
+ghost use Rattle.unftp_control_c.specs.Areas.{Made, filled, written};
 ghost use Rattle.unftp_control_c.specs.Clients.{dialogue_of, may_begin_tls, new_client, place_in, to_number};
 ghost use Rattle.unftp_control_c.specs.ExchangeLines.{IsExchangeLine};
 ghost use Rattle.unftp_control_c.specs.LogLines.{IsLogLine, numbered_log_line};
 ghost use Rattle.unftp_control_c.specs.Logins.{Kept, decision_at, kept_after, kept_after_all, login_step, nobody, progress_of, stage_number, stage_of};
 ghost use Rattle.unftp_control_c.specs.Next.{Call, Given, Leaves, Left, given_for, line_limit, scans};
 ghost use Rattle.unftp_control_c.specs.Numbers.{status_number};
-ghost use Rattle.unftp_control_c.specs.Replies.{EncodesReply, IsFoundText};
+ghost use Rattle.unftp_control_c.specs.Replies.{IsFoundText, reply_bytes};
 ghost use Rattle.unftp_control_c.specs.Taking.{AreCallerSteps, Caller, CallerStep, IsNumberOf, after_call, all_given, caller_call, gives_none, input_of, new_caller, scanned_by, unscanned};
 ghost use Rattle.unftp_control_c.specs.declared.client.Client.{Client as RustClient};
 ghost use Rattle.unftp_control_c.specs.declared.login.Progress.{Progress};
@@ -118,13 +119,15 @@ pub fn rooms_are_bounded()
         → 1 ≤ call.connection.limit → 3 * call.connection.limit ≤ length call.area
         → left.result ≢ status_number NoRoom }
     // The reply of one line of n bytes has at most n + 6 bytes.
-    ensures reply_of_a_line { (code : ℕ) (text : Bytes) (bytes : Made) (out : Bytes)
-        → EncodesReply code text bytes → Lacks LF text
-        → (written bytes out).text_length ≤ length text + 6 }
+    ensures reply_of_a_line { (code : ℕ) (text out : Bytes) → Lacks LF text
+        → (written (reply_bytes code text) out).text_length ≤ length text + 6 }
     // That of a text of n bytes with k line feeds has at most n + 2 k + 10 bytes.
-    ensures reply { (code : ℕ) (text : Bytes) (bytes : Made) (out : Bytes)
-        → EncodesReply code text bytes → (written bytes out).text_length
+    ensures reply { (code : ℕ) (text out : Bytes)
+        → (written (reply_bytes code text) out).text_length
         ≤ length text + 2 * count_by is_line_feed text + 10 }
+    // A path of n bytes between quotes has at most 2 n + 2 bytes.
+    ensures quoted { (path out : Bytes)
+        → (filled (quoted path) out).text_length ≤ 2 * length path + 2 }
     // The lines of a reply have at most as many bytes as it.
     ensures lines { (bytes : Bytes) (text : Made) (out : Bytes)
         → IsFoundText bytes text → (written text out).text_length ≤ length bytes }

@@ -6,12 +6,12 @@ ghost use Rattle.unftp_control_defs.specs.Said.{IsSaid};
 ghost use Rattle.unftp_control_message.specs.PartsMeaning.{AreInPlace, IsInPlace, said_of, spelled};
 ghost use Rattle.unftp_control_c.specs.Next.{GivesCommand, Leaves, LeavesLine, call_with, codec_of, given_of, gives, is_valid, left_with, meant, no_lengths, resumed, scans, used_up};
 
-use crate::areas::overwrite_both;
 use crate::status::{Status, kind_status};
 use itoa::Buffer;
 use std::alloc::Global;
 use unftp_control_codecs::line_parser::parts;
 use unftp_control_codecs::{FirstLine, FtpCodec};
+use unftp_control_commands::pieces::overwrite_both;
 use unftp_control_message::Command;
 use unftp_control_message::parts::Parts;
 

@@ -1,57 +1,46 @@
 //! Replies: one that is written, and the first of those that were received.
-ghost use Rattle.std.specs.Prelude.{◌≡◌, ◌↔◌, ◌≤◌, ◌==◌, ℕ, [], ◌∷◌, ◌++◌, if◌then◌else◌, length, map, take, List, Err, IsTrue, IfOk, IfErr};
+ghost use Rattle.std.specs.Prelude.{◌≡◌, ◌↔◌, ◌≤◌, ◌==◌, ℕ, [], ◌∷◌, ◌++◌, if◌then◌else◌, length, take, List, IsTrue};
 ghost use Rattle.std.specs.Str.Lines.{strip_carriage_return};
 ghost use Rattle.unftp_control_defs.specs.Bytes.{Bytes, LF, Lacks, crlf};
-ghost use Rattle.unftp_control_defs.specs.FtpReply.{FtpReply, CodeAndMsg, encoded, spaced_line};
+ghost use Rattle.unftp_control_defs.specs.FtpReply.{CodeAndMsg, MultiLine, encoded, padded, spaced_line};
 ghost use Rattle.unftp_control_defs.specs.ReplyReader.{FrontReply, IsMalformed, IsPartial, ReadsBack};
-ghost use Rattle.unftp_control_codecs.specs.ReplyCodes.{IsReplyCode};
-ghost use Rattle.unftp_control_c.specs.Areas.{Made, filled, written};
+ghost use Rattle.unftp_control_codecs.specs.Encoding.{padded_line};
+ghost use Rattle.unftp_control_commands.specs.Areas.{HasText};
+ghost use Rattle.unftp_control_commands.specs.ReplyTexts.{quoted};
+ghost use Rattle.unftp_control_c.specs.Areas.{filled, written};
 ghost use Rattle.unftp_control_c.specs.Numbers.{status_number};
-ghost use Rattle.unftp_control_c.specs.Replies.{EncodesReply, IsReplyText, lines_reply, text_lines};
-ghost use Rattle.unftp_control_c.specs.declared.status.Status.TheVariants.{Done, More, Malformed, OutOfMemory};
+ghost use Rattle.unftp_control_c.specs.Replies.{reply_bytes, text_lines, text_reply};
+ghost use Rattle.unftp_control_c.specs.declared.status.Status.TheVariants.{Done, More, Malformed};
 
-use crate::areas::{overwrite_both, write};
+use crate::areas::write;
 use crate::status::Status;
 use itoa::Buffer;
-use std::alloc::{AllocError, Global};
-use std::str::from_utf8;
-use unftp_control_codecs::{encode_lines, is_reply_code};
+use unftp_control_codecs::{begins_with_digit, is_reply_code};
+use unftp_control_commands::pieces::{cut, overwrite_both, put};
+use unftp_control_commands::write_quoted;
 use unftp_control_read::find_reply;
 
 /// The bytes of a reply: `unftp_reply` of include/unftp_control.h.
 #[unsafe(no_mangle)]
-pub extern "C" fn unftp_reply(
-    alloc: Global,
-    code: u32,
-    text: &[u8],
-    out: &mut [u8],
-    len: &mut usize,
-) -> u32
-    // Only a text of several lines takes memory.
-    ensures memory { result ≡ status_number OutOfMemory → ¬ Lacks LF text.now }
-    ensures writes { (bytes : Made) × EncodesReply code text.now bytes
-        × (record { result = result; area = out.new; text_length = len.new }
-        ≡ written bytes out.old) }
+pub extern "C" fn unftp_reply(code: u32, text: &[u8], out: &mut [u8], len: &mut usize) -> u32
+    ensures writes { record { result = result; area = out.new; text_length = len.new }
+        ≡ written (reply_bytes code text.now) out.old }
     // A client finds exactly this reply in the bytes.
     ensures read_back { result ≡ status_number Done
-        → (reply : FtpReply) × IsReplyText code text.now reply
-        × ReadsBack (take len.new out.new) (reply ∷ []) }
+        → ReadsBack (take len.new out.new) (text_reply code text.now ∷ []) }
 {
     if !is_reply_code(code) {
         return write(Err(Status::UnknownCode), out, len);
     }
-    let Ok(text) = from_utf8(text) else {
-        return write(Err(Status::InvalidUtf8), out, len);
-    };
     if is_one_line(text) {
         return write_line(code, text, out, len);
     }
-    write(encoded_lines(alloc, code, text), out, len)
+    write_lines(code, text, out, len)
 }
 
 /// Writes the reply of one line to the start of the area, where it has room for it, and reports how
-/// long it is: the number of what has come of it. It takes no memory.
-fn write_line(code: u32, text: &str, area: &mut [u8], len: &mut usize) -> u32
+/// long it is: the number of what has come of it.
+fn write_line(code: u32, text: &[u8], area: &mut [u8], len: &mut usize) -> u32
     ensures { record { result = result; area = area.new; text_length = len.new }
         ≡ filled (encoded (CodeAndMsg code text.now)) area.old }
 {
@@ -65,12 +54,12 @@ fn write_line(code: u32, text: &str, area: &mut [u8], len: &mut usize) -> u32
     }
     let (start, rest) = area.split_at_mut(front);
     overwrite_both(digits, space, start);
-    overwrite_both(text.as_bytes(), b"\r\n", rest);
+    overwrite_both(text, b"\r\n", rest);
     Status::Done.number()
 }
 
 /// The space between a code and the text, or nothing before an empty one.
-fn space_before(text: &str) -> &'static [u8]
+fn space_before(text: &[u8]) -> &'static [u8]
     ensures line { result.now ++ (text.now ++ crlf)
         ≡ (if length text.now == 0 then crlf else spaced_line text.now) }
     ensures short { length result.now ≤ 1 }
@@ -78,48 +67,90 @@ fn space_before(text: &str) -> &'static [u8]
     if text.is_empty() { b"" } else { b" " }
 }
 
-/// The bytes of the reply of the text's lines, or why there are none.
-fn encoded_lines(alloc: Global, code: u32, text: &str) -> Result<Vec<u8>, Status>
-    requires { IsReplyCode code }
-    ensures ok { IfOk result (λ buf. buf.items ≡ encoded (lines_reply code text.now)) }
-    ensures err { IfErr result (λ status. status ≡ OutOfMemory) }
+/// Writes the reply of the text's lines to the start of the area, where it has room for it, and
+/// reports how long it is: the number of what has come of it. The lines are counted before any is
+/// written.
+fn write_lines(code: u32, text: &[u8], area: &mut [u8], len: &mut usize) -> u32
+    requires { ¬ Lacks LF text.now }
+    ensures { record { result = result; area = area.new; text_length = len.new }
+        ≡ filled (encoded (MultiLine code (text_lines text.now))) area.old }
 {
-    let Ok(lines) = lines_of(alloc, text) else {
-        return Err(Status::OutOfMemory);
-    };
-    let mut buf = Vec::new(alloc);
-    match encode_lines(code, lines.as_slice(), &mut buf) {
-        Ok(()) => Ok(buf),
-        Err(_) => Err(Status::OutOfMemory),
+    put_lines(code, text, &mut [], len);
+    if *len > area.len() {
+        return Status::NoRoom.number();
     }
+    put_lines(code, text, area, len);
+    Status::Done.number()
 }
 
-/// The lines of the text, which CR LFs and line feeds divide.
-fn lines_of(alloc: Global, text: &str) -> Result<Vec<&str>, AllocError>
-    ensures { IfOk result (λ lines. map (λ line. line.now) lines.items ≡ text_lines text.now) }
+/// Writes the reply of the text's lines to the start of the area, where it has room for it, and its
+/// length to `len`. Without room it only counts.
+fn put_lines(code: u32, text: &[u8], area: &mut [u8], len: &mut usize)
+    requires { ¬ Lacks LF text.now }
+    ensures { HasText area.old (encoded (MultiLine code (text_lines text.now))) area.new len.new }
 {
-    let mut lines = Vec::new(alloc);
+    let mut digits = Buffer::new();
+    let digits = digits.format(code).as_bytes();
+    *len = 0;
+    put(digits, area, len);
+    put(b"-", area, len);
     let mut rest = text;
-    while let Some((line, after)) = rest.split_once('\n') {
-        lines.push(without_carriage_return(line))?;
+    'lines: while let Some((line, after)) = cut(rest, b'\n') {
+        put_padded(without_carriage_return(line), area, len);
         rest = after;
     }
-    lines.push(rest)?;
-    Ok(lines)
+    put(digits, area, len);
+    put(b" ", area, len);
+    put(rest, area, len);
+    put(b"\r\n", area, len);
+}
+
+/// Writes a line before the last, with its end, after what is in the area.
+fn put_padded(line: &[u8], area: &mut [u8], len: &mut usize)
+    ensures { (start text : Bytes) → HasText start text area.old len.old
+        → HasText start (text ++ padded_line line.now) area.new len.new }
+{
+    put(padding(line), area, len);
+    put(line, area, len);
+    put(b"\r\n", area, len);
+}
+
+/// The space before a line that begins with a digit, or nothing before any other.
+fn padding(line: &[u8]) -> &'static [u8]
+    ensures { padded line.now ≡ result.now ++ line.now }
+{
+    if begins_with_digit(line) { b" " } else { b"" }
 }
 
 /// A line before a line feed, without the carriage return that belongs to the line's end.
-fn without_carriage_return(line: &str) -> &str
+fn without_carriage_return(line: &[u8]) -> &[u8]
     ensures { result.now ≡ strip_carriage_return line.now }
 {
-    line.strip_suffix('\r').unwrap_or(line)
+    match line.split_last() {
+        Some((last, front)) if *last == b'\r' => front,
+        _ => line,
+    }
 }
 
 /// Whether the text has no line feed.
-fn is_one_line(text: &str) -> bool
+fn is_one_line(text: &[u8]) -> bool
     ensures { IsTrue result ↔ Lacks LF text.now }
 {
-    !text.as_bytes().contains(&b'\n')
+    !text.contains(&b'\n')
+}
+
+/// The path between double quotes: `unftp_quoted_path` of include/unftp_control.h.
+#[unsafe(no_mangle)]
+pub extern "C" fn unftp_quoted_path(path: &[u8], out: &mut [u8], len: &mut usize) -> u32
+    ensures { record { result = result; area = out.new; text_length = len.new }
+        ≡ filled (quoted path.now) out.old }
+{
+    write_quoted(path, &mut [], len);
+    if *len > out.len() {
+        return Status::NoRoom.number();
+    }
+    write_quoted(path, out, len);
+    Status::Done.number()
 }
 
 /// What was found: `struct unftp_found_reply` of include/unftp_control.h.

@@ -14,7 +14,7 @@ pub enum Status {
     More = 101,
     /// The line is no command that the server knows.
     InvalidCommand = 102,
-    /// The verb of the line, or a text that has to be UTF-8, is not.
+    /// The verb, the subcommand of SITE or AUTH's parameter is not UTF-8.
     InvalidUtf8 = 103,
     /// The line doesn't end as a line has to.
     InvalidEol = 104,

@@ -7,7 +7,7 @@ ghost use Rattle.unftp_control_message.specs.ReplyMeaning.{reply_of};
 ghost use Rattle.unftp_control_codecs.specs.Encoding.{padded_line, lines_before_last};
 
 use std::alloc::AllocError;
-use std::convert::AsStr;
+use std::convert::AsSlice;
 use unftp_control_message::reply::Reply;
 
 /// How many bytes end a line: CR LF.
@@ -39,13 +39,13 @@ fn append_parts(reply: &Reply, buf: &mut Vec<u8>) -> Result<(), AllocError>
 {
     match reply {
         Reply::None => Ok(()),
-        Reply::CodeAndMsg { code, msg } => append_line(code.number(), msg.as_str(), buf),
+        Reply::CodeAndMsg { code, msg } => append_line(code.number(), msg.as_bytes(), buf),
         Reply::MultiLine { code, lines } => append_lines(code.number(), lines.as_slice(), buf),
     }
 }
 
 /// Appends a reply of one line, or perhaps a part of it when out of memory.
-fn append_line(code: u32, text: &str, buf: &mut Vec<u8>) -> Result<(), AllocError>
+fn append_line(code: u32, text: &[u8], buf: &mut Vec<u8>) -> Result<(), AllocError>
     ensures ok { OnOk result (buf.new.items
         ≡ buf.old.items ++ encoded (CodeAndMsg code text.now)) }
     ensures kept { take (vec_len buf.old) buf.new.items ≡ buf.old.items }
@@ -57,7 +57,7 @@ fn append_line(code: u32, text: &str, buf: &mut Vec<u8>) -> Result<(), AllocErro
 }
 
 /// How many bytes follow the code of a reply of one line, where so many can be counted.
-fn text_len(text: &str) -> usize
+fn text_len(text: &[u8]) -> usize
     ensures { result ≤ length (if length text.now == 0 then crlf else spaced_line text.now) }
 {
     if text.is_empty() {
@@ -67,14 +67,14 @@ fn text_len(text: &str) -> usize
 }
 
 /// How many bytes a space, the text and CR LF are, where so many can be counted.
-fn spaced_line_len(text: &str) -> usize
+fn spaced_line_len(text: &[u8]) -> usize
     ensures { result ≤ length (spaced_line text.now) }
 {
     text.len().saturating_add(1 + LINE_END)
 }
 
 /// How many bytes a line before the last has, where so many can be counted.
-fn padded_line_len(line: &str) -> usize
+fn padded_line_len(line: &[u8]) -> usize
     ensures { result ≤ length (padded_line line.now) }
 {
     if begins_with_digit(line) {
@@ -94,20 +94,20 @@ fn code_len(code: u32) -> usize
 }
 
 /// How many bytes lines before the last have, where so many can be counted.
-fn padded_lines_len<S: AsStr>(lines: &[S]) -> usize
-    ensures { result ≤ length (flat_map padded_line (map S.text lines.now)) }
+fn padded_lines_len<S: AsSlice<u8>>(lines: &[S]) -> usize
+    ensures { result ≤ length (flat_map padded_line (map S.items lines.now)) }
 {
     let mut len: usize = 0;
     for line in lines {
-        len = len.saturating_add(padded_line_len(line.as_str()));
+        len = len.saturating_add(padded_line_len(line.as_slice()));
     }
     len
 }
 
 /// How many bytes the code, a dash and all lines before the last have, if there are any, where so
 /// many can be counted.
-fn lines_before_last_len<S: AsStr>(code: u32, lines: &[S]) -> usize
-    ensures { result ≤ length (lines_before_last code (map S.text lines.now)) }
+fn lines_before_last_len<S: AsSlice<u8>>(code: u32, lines: &[S]) -> usize
+    ensures { result ≤ length (lines_before_last code (map S.items lines.now)) }
 {
     if lines.is_empty() {
         return 0;
@@ -152,7 +152,7 @@ fn digit(number: u32) -> u8
 
 /// Appends what follows the code of a reply of one line: a space and the text, or nothing where it
 /// is empty, and CR LF.
-fn append_text(text: &str, buf: &mut Vec<u8>) -> Result<(), AllocError>
+fn append_text(text: &[u8], buf: &mut Vec<u8>) -> Result<(), AllocError>
     ensures ok { OnOk result (buf.new.items
         ≡ buf.old.items ++ (if length text.now == 0 then crlf else spaced_line text.now)) }
     ensures kept { take (vec_len buf.old) buf.new.items ≡ buf.old.items }
@@ -167,19 +167,19 @@ fn append_text(text: &str, buf: &mut Vec<u8>) -> Result<(), AllocError>
 
 /// Appends the text and CR LF.
 #[inline]
-fn append_ended(text: &str, buf: &mut Vec<u8>) -> Result<(), AllocError>
+fn append_ended(text: &[u8], buf: &mut Vec<u8>) -> Result<(), AllocError>
     ensures ok { OnOk result (buf.new.items ≡ buf.old.items ++ (text.now ++ crlf)) }
     ensures kept { take (vec_len buf.old) buf.new.items ≡ buf.old.items }
     ensures memory { OnErr result (LacksRoom buf.old (text.now ++ crlf)) }
     ensures capacity { vec_capacity buf.old ≤ vec_capacity buf.new }
 {
-    buf.extend_from_slice(text.as_bytes())?;
+    buf.extend_from_slice(text)?;
     buf.extend_from_slice(b"\r\n")
 }
 
 /// Appends a space, the text and CR LF.
 #[inline]
-fn append_spaced_line(text: &str, buf: &mut Vec<u8>) -> Result<(), AllocError>
+fn append_spaced_line(text: &[u8], buf: &mut Vec<u8>) -> Result<(), AllocError>
     ensures ok { OnOk result (buf.new.items ≡ buf.old.items ++ spaced_line text.now) }
     ensures kept { take (vec_len buf.old) buf.new.items ≡ buf.old.items }
     ensures memory { OnErr result (LacksRoom buf.old (spaced_line text.now)) }
@@ -189,18 +189,19 @@ fn append_spaced_line(text: &str, buf: &mut Vec<u8>) -> Result<(), AllocError>
     append_ended(text, buf)
 }
 
-/// Whether the text begins with a digit.
-fn begins_with_digit(text: &str) -> bool
+/// Whether the text begins with a digit. A line before the last of a reply then follows a space, so
+/// that no client takes it for the last one (RFC 959, section 4.2).
+pub fn begins_with_digit(text: &[u8]) -> bool
     ensures { padded text.now ≡ (if result then SP ∷ text.now else text.now) }
 {
-    match text.as_bytes() {
+    match text {
         [first, ..] => first.is_ascii_digit(),
         [] => false,
     }
 }
 
 /// Appends a line before the last: a space where it begins with a digit, the line and CR LF.
-fn append_padded_line(line: &str, buf: &mut Vec<u8>) -> Result<(), AllocError>
+fn append_padded_line(line: &[u8], buf: &mut Vec<u8>) -> Result<(), AllocError>
     ensures ok { OnOk result (buf.new.items ≡ buf.old.items ++ padded_line line.now) }
     ensures kept { take (vec_len buf.old) buf.new.items ≡ buf.old.items }
     ensures memory { OnErr result (LacksRoom buf.old (padded_line line.now)) }
@@ -213,31 +214,31 @@ fn append_padded_line(line: &str, buf: &mut Vec<u8>) -> Result<(), AllocError>
 }
 
 /// Appends lines before the last.
-fn append_padded_lines<S: AsStr>(lines: &[S], buf: &mut Vec<u8>) -> Result<(), AllocError>
+fn append_padded_lines<S: AsSlice<u8>>(lines: &[S], buf: &mut Vec<u8>) -> Result<(), AllocError>
     ensures ok { OnOk result
-        (buf.new.items ≡ buf.old.items ++ flat_map padded_line (map S.text lines.now)) }
+        (buf.new.items ≡ buf.old.items ++ flat_map padded_line (map S.items lines.now)) }
     ensures kept { take (vec_len buf.old) buf.new.items ≡ buf.old.items }
     ensures memory { OnErr result
-        (LacksRoom buf.old (flat_map padded_line (map S.text lines.now))) }
+        (LacksRoom buf.old (flat_map padded_line (map S.items lines.now))) }
     ensures capacity { vec_capacity buf.old ≤ vec_capacity buf.new }
 {
     for line in lines {
-        append_padded_line(line.as_str(), buf)?;
+        append_padded_line(line.as_slice(), buf)?;
     }
     Ok(())
 }
 
 /// Appends the code, a dash and all lines before the last, if there are any.
-fn append_lines_before_last<S: AsStr>(
+fn append_lines_before_last<S: AsSlice<u8>>(
     code: u32,
     lines: &[S],
     buf: &mut Vec<u8>,
 ) -> Result<(), AllocError>
     ensures ok { OnOk result (buf.new.items
-        ≡ buf.old.items ++ lines_before_last code (map S.text lines.now)) }
+        ≡ buf.old.items ++ lines_before_last code (map S.items lines.now)) }
     ensures kept { take (vec_len buf.old) buf.new.items ≡ buf.old.items }
     ensures memory { OnErr result
-        (LacksRoom buf.old (lines_before_last code (map S.text lines.now))) }
+        (LacksRoom buf.old (lines_before_last code (map S.items lines.now))) }
     ensures capacity { vec_capacity buf.old ≤ vec_capacity buf.new }
 {
     if lines.is_empty() {
@@ -249,25 +250,29 @@ fn append_lines_before_last<S: AsStr>(
 }
 
 /// The last line, which is empty where there is none, and the lines before it.
-fn last_and_front<S: AsStr>(lines: &[S]) -> (&str, &[S])
-    ensures { (code : ℕ) → encoded (MultiLine code (map S.text lines.now))
-        ≡ lines_before_last code (map S.text result.1.now)
+fn last_and_front<S: AsSlice<u8>>(lines: &[S]) -> (&[u8], &[S])
+    ensures { (code : ℕ) → encoded (MultiLine code (map S.items lines.now))
+        ≡ lines_before_last code (map S.items result.1.now)
         ++ (decimal code ++ spaced_line result.0.now) }
 {
     match lines.split_last() {
-        Some((last, front)) => (last.as_str(), front),
-        None => ("", lines),
+        Some((last, front)) => (last.as_slice(), front),
+        None => (b"", lines),
     }
 }
 
 /// Appends a reply with this code and these lines, or perhaps a part of it when out of memory. The
 /// buffer grows once at most, and only where it lacks room for the reply.
-pub fn append_lines<S: AsStr>(code: u32, lines: &[S], buf: &mut Vec<u8>) -> Result<(), AllocError>
+pub fn append_lines<S: AsSlice<u8>>(
+    code: u32,
+    lines: &[S],
+    buf: &mut Vec<u8>,
+) -> Result<(), AllocError>
     ensures ok { OnOk result (buf.new.items
-        ≡ buf.old.items ++ encoded (MultiLine code (map S.text lines.now))) }
+        ≡ buf.old.items ++ encoded (MultiLine code (map S.items lines.now))) }
     ensures kept { take (vec_len buf.old) buf.new.items ≡ buf.old.items }
     ensures memory { OnErr result
-        (LacksRoom buf.old (encoded (MultiLine code (map S.text lines.now)))) }
+        (LacksRoom buf.old (encoded (MultiLine code (map S.items lines.now)))) }
 {
     let (last, front) = last_and_front(lines);
     let last_len = code_len(code).saturating_add(spaced_line_len(last));

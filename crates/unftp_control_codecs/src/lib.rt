@@ -18,6 +18,7 @@ mod lines;
 mod scan;
 
 use crate::encoding::append_reply;
+pub use crate::encoding::begins_with_digit;
 use crate::line_parser::parse;
 pub use crate::lines::{EncodeLinesError, encode_lines, is_reply_code};
 use crate::scan::{Scan, ScanCount};

@@ -8,7 +8,7 @@ ghost use Rattle.unftp_control_defs.specs.Room.{LacksRoom};
 ghost use Rattle.unftp_control_codecs.specs.ReplyCodes.{IsReplyCode};
 
 use crate::encoding::append_lines;
-use std::convert::AsStr;
+use std::convert::AsSlice;
 use thiserror::Error;
 
 /// Why no reply is encoded.
@@ -37,21 +37,21 @@ pub fn is_reply_code(code: u32) -> bool
 /// It is refused with `CodeOutOfRange` where the code is not from 100 to 599, and for that no
 /// memory is asked for; and with `OutOfMemory` where `buf` lacks room for the reply and can't grow.
 /// `buf` is then as it was.
-pub fn encode_lines<S: AsStr>(
+pub fn encode_lines<S: AsSlice<u8>>(
     code: u32,
     lines: &[S],
     buf: &mut Vec<u8>,
 ) -> Result<(), EncodeLinesError>
     ensures ok { OnOk result (buf.new.items
-        ≡ buf.old.items ++ encoded (MultiLine code (map S.text lines.now))) }
+        ≡ buf.old.items ++ encoded (MultiLine code (map S.items lines.now))) }
     // Where no line has a line feed, a client finds exactly this reply in what was appended.
-    ensures read_back { OnOk result (AllByRecursion (Lacks LF) (map S.text lines.now)
+    ensures read_back { OnOk result (AllByRecursion (Lacks LF) (map S.items lines.now)
         → ReadsBack (drop (vec_len buf.old) buf.new.items)
-        (MultiLine code (map S.text lines.now) ∷ [])) }
+        (MultiLine code (map S.items lines.now) ∷ [])) }
     ensures err { OnErr result (buf.new.items ≡ buf.old.items) }
     ensures out_of_range { IsErrOf result EncodeLinesError.CodeOutOfRange ↔ ¬ IsReplyCode code }
     ensures memory { IsErrOf result EncodeLinesError.OutOfMemory
-        → LacksRoom buf.old (encoded (MultiLine code (map S.text lines.now))) }
+        → LacksRoom buf.old (encoded (MultiLine code (map S.items lines.now))) }
 {
     if !is_reply_code(code) {
         return Err(EncodeLinesError::CodeOutOfRange);

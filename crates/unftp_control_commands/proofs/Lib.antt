@@ -1,3 +1,4 @@
+pub mod AreaLemmas
 mod ReplaceLemmas
 mod QuoteLemmas
 mod SingleLineLemmas

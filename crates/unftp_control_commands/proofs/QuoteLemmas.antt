@@ -93,3 +93,37 @@ Lacks-quoted path h = (
   Lacks-append LF (doubled path) (QUOTE ∷ []) (Lacks-doubled path h)
       ((λ q. omega arith), tt),
 )
+
+-- ---- a path that is quoted part by part
+
+doubled-cut : (part after : Bytes) → Lacks QUOTE part
+    → doubled (part ++ QUOTE ∷ after) ≡ part ++ QUOTE ∷ QUOTE ∷ doubled after
+doubled-cut [] after h = refl
+doubled-cut (b ∷ part) after h =
+    rw (ne_eqb b QUOTE h.0) (ap (λ text. b ∷ text) (doubled-cut part after h.1))
+
+doubled-lacking : (path : Bytes) → Lacks QUOTE path → doubled path ≡ path
+doubled-lacking [] h = refl
+doubled-lacking (b ∷ path) h =
+    rw (ne_eqb b QUOTE h.0) (ap (λ text. b ∷ text) (doubled-lacking path h.1))
+
+-- what is written so far, and what is still to be written of the path
+abbrev pub is_left : Bytes → Bytes
+is_left path = doubled path ++ QUOTE ∷ []
+
+pub next_part : (text part after : Bytes) {path whole : Bytes} → path ≡ part ++ QUOTE ∷ after
+    → Lacks QUOTE part → text ++ is_left path ≡ whole
+    → ((text ++ part) ++ QUOTE ∷ QUOTE ∷ []) ++ is_left after ≡ whole
+next_part text part after {path} cut lacks whole =
+    let left : is_left path ≡ part ++ QUOTE ∷ QUOTE ∷ is_left after =
+    ap (λ found. found ++ QUOTE ∷ []) (ap doubled cut ∙ doubled-cut part after lacks)
+    ∙ append_assoc part (QUOTE ∷ QUOTE ∷ doubled after) (QUOTE ∷ []) in
+    append_assoc (text ++ part) (QUOTE ∷ QUOTE ∷ []) (is_left after)
+    ∙ append_assoc text part (QUOTE ∷ QUOTE ∷ is_left after)
+    ∙ ap (λ more. text ++ more) (sym left) ∙ whole
+
+pub last_part : (text path : Bytes) {whole : Bytes} → Lacks QUOTE path
+    → text ++ is_left path ≡ whole → (text ++ path) ++ QUOTE ∷ [] ≡ whole
+last_part text path lacks whole =
+    append_assoc text path (QUOTE ∷ [])
+    ∙ ap (λ found. text ++ (found ++ QUOTE ∷ [])) (sym (doubled-lacking path lacks)) ∙ whole

@@ -9,6 +9,7 @@ mod lines;
 mod listing;
 mod mode;
 mod opts;
+pub mod pieces;
 mod prot;
 mod session;
 mod stru;
@@ -24,5 +25,8 @@ pub use opts::Opts;
 pub use prot::Prot;
 pub use session::{SessionChange, same_changes};
 pub use stru::Stru;
-pub use texts::{quoted_path, quoted_paths_read_back, single_line_text, single_lines_read_back};
+pub use texts::{
+    quoted_bytes, quoted_path, quoted_paths_read_back, single_line_text, single_lines_read_back,
+    write_quoted,
+};
 pub use unftp_control_defs::parameters::{AuthParam, ModeParam, Opt, ProtParam, StruParam};

@@ -4,20 +4,53 @@ ghost use Rattle.unftp_control_defs.specs.Bytes.{Bytes, NUL, LF, Lacks};
 ghost use Rattle.unftp_control_defs.specs.Events.{out_of_memory};
 ghost use Rattle.unftp_control_defs.specs.Values.{escaped};
 ghost use Rattle.unftp_control_message.specs.ErrorMeaning.{fault_of};
+ghost use Rattle.unftp_control_commands.specs.Areas.{HasText};
 ghost use Rattle.unftp_control_commands.specs.ReplyTexts.{HasNoFirstQuote, doubled, quoted, single_line};
 
+use crate::pieces::{cut, put};
 use std::alloc::{AllocError, Global};
 use unftp_control_message::reply::error::ControlChanError;
 
 /// The path between double quotes, with each double quote in it doubled, as the replies to PWD and
 /// MKD have it (RFC 959, section 5.4 and appendix II). It fails only when out of memory, with the
-/// kind `OutOfMemory`.
+/// kind `OutOfMemory`. A path that may not be UTF-8 is quoted by `quoted_bytes`.
 pub fn quoted_path(alloc: Global, path: &str) -> Result<String, ControlChanError>
     ensures ok { IfOk result (λ text. string_bytes text ≡ quoted path.now) }
     ensures err { IfErr result (λ error. fault_of error ≡ out_of_memory) }
 {
     let doubled = doubled_quotes(alloc, path)?;
     Ok(format!(in alloc; "\"{doubled}\"")?)
+}
+
+/// What `quoted_path` gives, of a path of any bytes. `encode_lines` makes a reply of it. It fails
+/// only when out of memory, with the kind `OutOfMemory`.
+pub fn quoted_bytes(alloc: Global, path: &[u8]) -> Result<Vec<u8>, ControlChanError>
+    ensures ok { IfOk result (λ text. text.items ≡ quoted path.now) }
+    ensures err { IfErr result (λ error. fault_of error ≡ out_of_memory) }
+{
+    let mut len: usize = 0;
+    write_quoted(path, &mut [], &mut len);
+    let mut text = vec![in alloc; 0u8; len]?;
+    write_quoted(path, text.as_mut_slice(), &mut len);
+    Ok(text)
+}
+
+/// Writes the path between double quotes, with each double quote in it doubled, to the start of the
+/// area, where it has room for all of it, and its length to `len`. Without room it only counts: a
+/// length of more than `usize::MAX` as `usize::MAX`.
+pub fn write_quoted(path: &[u8], area: &mut [u8], len: &mut usize)
+    ensures { HasText area.old (quoted path.now) area.new len.new }
+{
+    *len = 0;
+    put(b"\"", area, len);
+    let mut rest = path;
+    'quotes: while let Some((part, after)) = cut(rest, b'"') {
+        put(part, area, len);
+        put(b"\"\"", area, len);
+        rest = after;
+    }
+    put(rest, area, len);
+    put(b"\"", area, len);
 }
 
 /// The path with each double quote doubled.

@@ -4,10 +4,11 @@ use crate::lines::read_command;
 use crate::shown::Quoted;
 use crate::words::{CaseError, Word, Words};
 use std::alloc::Global;
+use std::str::from_utf8;
 use unftp_control_codecs::{encode_lines, encode_reply};
 use unftp_control_commands::{
     Auth, Epsv, Feat, Help, Mode, Opts, Passive, Prot, SessionChange, Stru, make_epsv_reply,
-    quoted_path, single_line_text,
+    quoted_bytes, quoted_path, single_line_text,
 };
 use unftp_control_message::Command;
 use unftp_control_message::reply::error::ControlChanError;
@@ -55,7 +56,7 @@ pub fn answer_lines(words: &mut Words<'_>, answers: &mut Answers) -> Answered {
     let code = words.number()?;
     let mut lines = Vec::new(answers.alloc);
     for line in words.rest() {
-        lines.push(line.text()?)?;
+        lines.push(line.bytes()?)?;
     }
     let mut buf = Vec::from_slice(answers.alloc, b"x")?;
     let encoded = once_more!(answers, encode_lines(code, lines.as_slice(), &mut buf));
@@ -150,9 +151,15 @@ pub fn answer_epsv(words: &mut Words<'_>, answers: &mut Answers) -> Answered {
 
 /// `quoted_path PATH`
 pub fn answer_quoted_path(words: &mut Words<'_>, answers: &mut Answers) -> Answered {
-    let path = words.text()?;
-    let quoted = quoted_path(answers.begin(), path)?;
-    answers.put(Quoted(quoted.as_bytes()));
+    let path = words.bytes()?;
+    let alloc = answers.begin();
+    let quoted = quoted_bytes(alloc, path)?;
+    let is_same = match from_utf8(path) {
+        Ok(text) => quoted_path(alloc, text)?.as_bytes() == quoted.as_slice(),
+        Err(_) => true,
+    };
+    answers.put(Quoted(quoted.as_slice()));
+    answers.put_where(!is_same, " unequal");
     Ok(())
 }
 

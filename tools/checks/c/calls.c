@@ -393,10 +393,6 @@ static void check_reply(struct bytes text)
     enum unftp_result result = unftp_reply(299, text.at, text.len, none.at, 0, &room);
 
     free_area(none);
-    if (result == UNFTP_INVALID_UTF8) {
-        wants(room == 0, "no room is needed for no reply");
-        return;
-    }
     wants(result == UNFTP_NO_ROOM && room <= text.len + (lines > 0 ? 2 * lines + 10 : 6),
           "the room of a reply");
     less = area_of(room - 1);
@@ -407,6 +403,34 @@ static void check_reply(struct bytes text)
     check_found(out);
     check_line_ends(text, out);
     replies++;
+    free_area(less);
+    free_area(out);
+}
+
+/* Writes a path between quotes with just enough room. */
+static void check_quoted(struct bytes path)
+{
+    struct bytes none = area_of(0), less, out;
+    size_t room, again, end = 1;
+    enum unftp_result result = unftp_quoted_path(path.at, path.len, none.at, 0, &room);
+
+    free_area(none);
+    wants(result == UNFTP_NO_ROOM && room >= path.len + 2 && room <= 2 * path.len + 2,
+          "the room of a path between quotes");
+    less = area_of(room - 1);
+    wants(unftp_quoted_path(path.at, path.len, less.at, room - 1, &again) == UNFTP_NO_ROOM
+              && again == room && is_filling(less),
+          "a path between quotes needs this room");
+    out = area_of(room);
+    wants(unftp_quoted_path(path.at, path.len, out.at, room, &again) == UNFTP_DONE
+              && again == room && out.at[0] == '"' && out.at[room - 1] == '"',
+          "a path between quotes has just enough room");
+    for (size_t at = 0; at < path.len; at++) {
+        wants(out.at[end++] == path.at[at], "a path between quotes has the path's bytes");
+        if (path.at[at] == '"')
+            wants(out.at[end++] == '"', "and each quote twice");
+    }
+    wants(end == room - 1, "and nothing more");
     free_area(less);
     free_area(out);
 }
@@ -425,6 +449,8 @@ static void check_texts(void)
         {"a\r", "299 a\r\r\n", "a\r\r\n"},
         {"a\rb", "299 a\rb\r\n", "a\rb\r\n"},
         {"\n\r", "299-\r\n299 \r\r\n", "\r\n\r\r\n"},
+        {"\xe9\n1\n\xff", "299-\xe9\r\n 1\r\n299 \xff\r\n", "\xe9\r\n 1\r\n\xff\r\n"},
+        {"\xe9\xff", "299 \xe9\xff\r\n", "\xe9\xff\r\n"},
     };
     char out[64], lines[64];
     size_t len;
@@ -1016,6 +1042,7 @@ int main(void)
         inputs++;
         check_lines(input);
         check_reply(input);
+        check_quoted(input);
         check_addresses(input);
         check_exchange(input);
         free_area(input);

@@ -291,21 +291,20 @@ static bool join(struct words *words, size_t first, char *text, size_t *len)
     return true;
 }
 
-static bool answer_encode(struct words *words)
+/* Shows the reply with the code in this word and the lines in those after it. */
+static bool show_reply(struct words *words, size_t code)
 {
-    bool has_lines = strcmp(words->at[0], "multi") == 0, is_taken;
     size_t most = 0, text_len;
     struct bytes out = {NULL, 0};
+    bool is_taken;
     char *text;
 
-    if (words->count < (has_lines ? 4 : 3) || !unquote_from(words, 2))
-        return false;
-    for (size_t at = 2; at < words->count; at++)
+    for (size_t at = code + 1; at < words->count; at++)
         most += words->bytes[at].len + 1;
     text = room_of(most);
     out.at = room_of(3 * most + 10);
-    is_taken = join(words, 2, text, &text_len)
-        && unftp_reply((uint32_t)limit_of(words->at[1]), text, text_len, out.at, 3 * most + 10,
+    is_taken = join(words, code + 1, text, &text_len)
+        && unftp_reply((uint32_t)limit_of(words->at[code]), text, text_len, out.at, 3 * most + 10,
                        &out.len)
             == UNFTP_DONE;
     if (is_taken)
@@ -313,6 +312,40 @@ static bool answer_encode(struct words *words)
     free(text);
     free(out.at);
     return is_taken;
+}
+
+static bool answer_encode(struct words *words)
+{
+    bool has_lines = strcmp(words->at[0], "multi") == 0;
+
+    if (words->count < (has_lines ? 4 : 3) || !unquote_from(words, 2))
+        return false;
+    return show_reply(words, 1);
+}
+
+/* The reply of a line without text has no space here. */
+static bool answer_lines(struct words *words)
+{
+    if (words->count < 2 || !unquote_from(words, 1)
+        || (words->count == 2 && words->bytes[1].len == 0))
+        return false;
+    return show_reply(words, 0);
+}
+
+static bool answer_quoted_path(struct words *words)
+{
+    struct bytes out;
+
+    if (!unquote_from(words, 0))
+        return false;
+    out.len = 2 * words->bytes[0].len + 2;
+    out.at = room_of(out.len);
+    if (unftp_quoted_path(words->bytes[0].at, words->bytes[0].len, out.at, out.len, &out.len)
+        != UNFTP_DONE)
+        fail("a path has no quotes");
+    show_quoted(out);
+    free(out.at);
+    return true;
 }
 
 /* Shows the lines of a reply, each of which ends with CR LF. */
@@ -562,6 +595,7 @@ static const struct {
     bool (*answer)(struct words *);
 } calls[] = {
     {"parse", answer_parse}, {"decode", answer_decode}, {"encode", answer_encode},
+    {"lines", answer_lines}, {"quoted_path", answer_quoted_path},
     {"read", answer_read}, {"canonical", answer_canonical}, {"forward", answer_forward},
     {"log", answer_log}, {"exchange", answer_exchange}, {"client", answer_client},
     {"read_address", answer_read_address}, {"write_address", answer_write_address},

@@ -29,6 +29,7 @@ enum {
     /* the names of the calls */
     NEXT = 0,
     REPLY,
+    QUOTED_PATH,
     FRONT_REPLY,
     REPLY_LINES,
     CANONICAL,
@@ -56,6 +57,7 @@ struct bytes {
 static const char *const names[CALLS] = {
     "unftp_next",
     "unftp_reply",
+    "unftp_quoted_path",
     "unftp_front_reply",
     "unftp_reply_lines",
     "unftp_canonical",
@@ -134,6 +136,7 @@ static void call(int name, struct bytes input, size_t room)
         result = unftp_next(&connection, input.at, input.len, area.at, room, &line);
         break;
     case REPLY: unftp_reply(299, input.at, input.len, area.at, room, &len); break;
+    case QUOTED_PATH: unftp_quoted_path(input.at, input.len, area.at, room, &len); break;
     case FRONT_REPLY: unftp_front_reply(input.at, input.len, &reply); break;
     case REPLY_LINES: unftp_reply_lines(input.at, input.len, area.at, room, &len); break;
     case CANONICAL: unftp_canonical(input.at, input.len, area.at, room, &len); break;

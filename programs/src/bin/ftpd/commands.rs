@@ -1,6 +1,7 @@
 //! The answers to commands.
 use crate::data::DataPort;
-use crate::line::{listed, named};
+use crate::folder::FilePath;
+use crate::line::{listed, named, with_nul};
 use crate::listing::{Fact, Form};
 use crate::record;
 use crate::replies;
@@ -11,8 +12,8 @@ use crate::transfer::Work;
 use std::borrow::Cow;
 use std::time::Duration;
 use unftp_control::{
-    AuthParam, Command, Event, LoginStep, ModeParam, Opt, OwnedLine, ProtParam, Refusal, Reply,
-    ReplyCode as Code, StruParam,
+    quoted_path, AuthParam, Command, Event, LoginStep, ModeParam, Opt, OwnedLine, ProtParam,
+    Refusal, Reply, ReplyCode as Code, StruParam,
 };
 
 /// What a session does for a line.
@@ -37,6 +38,14 @@ pub type Answered = Result<Answer, Reply>;
 /// The answer of a reply.
 pub fn reply(code: Code, text: impl Into<Cow<'static, str>>) -> Answered {
     Ok(Answer::Reply(Reply::new(code, text)))
+}
+
+/// The answer that names a directory, for PWD and MKD (RFC 959, appendix II).
+pub fn directory(path: &FilePath) -> Answered {
+    match quoted_path(&with_nul(&path.bytes())) {
+        Ok(quoted) => Ok(Answer::Reply(Reply::of_bytes(Code::DIR_CREATED, quoted))),
+        Err(error) => Err(Reply::new(Code::LOCAL_ERROR, error.to_string())),
+    }
 }
 
 /// The reply to what can't be done.
@@ -156,7 +165,7 @@ impl Session {
             Command::Epsv => self.extended_passive(line.parameter()),
             Command::Port { addr } => self.port(addr),
             Command::Rest { offset } => self.restart(*offset),
-            Command::Pwd => reply(Code::DIR_CREATED, self.directory.quoted()),
+            Command::Pwd => directory(&self.directory),
             Command::Cdup => self.change_directory(b"..").await,
             command => self.file_command(command, line).await,
         }

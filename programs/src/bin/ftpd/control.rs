@@ -104,7 +104,7 @@ impl Control {
 
     /// Takes a reply that is to be sent.
     pub fn reply(&mut self, reply: Reply) -> Result<(), CodecError> {
-        let text = reply.lines().next().unwrap_or_default();
+        let text = String::from_utf8_lossy(reply.lines().next().unwrap_or_default());
         tracing::debug!("{} {}", reply.code(), text.escape_debug());
         self.codec.encode(reply, &mut self.output)
     }

@@ -1,8 +1,8 @@
 //! The commands that name a file or a directory.
-use crate::commands::{refuse, reply, Answer, Answered};
+use crate::commands::{directory, refuse, reply, Answer, Answered};
 use crate::data::DataPort;
 use crate::folder::{is_type, FilePath, Folder, New};
-use crate::line::first_word;
+use crate::line::{first_word, with_nul};
 use crate::listing::{fact_list, parsed_time, time_value, Form, Listing};
 use crate::replies;
 use crate::representation::Representation;
@@ -134,7 +134,7 @@ impl Session {
         self.data_connection()?;
         let (target, size) = self.target(named, offset, New::Written).await?;
         let start = Start::Offset(self.start(offset, size)?);
-        self.receive(target, start, "Opening the data connection")
+        self.receive(target, start, opening("Opening the data connection"))
     }
 
     /// APPE after REST is only taken where both mean the same.
@@ -146,7 +146,7 @@ impl Session {
         if offset > 0 && offset != size {
             return Err(invalid_restart());
         }
-        self.receive(target, Start::End, "Opening the data connection")
+        self.receive(target, Start::End, opening("Opening the data connection"))
     }
 
     /// The reply names the file (RFC 1123, section 4.1.2.9).
@@ -155,21 +155,16 @@ impl Session {
         self.needs(Rights::may_add)?;
         self.data_connection()?;
         let path = self.in_folder(b"", Folder::choose).await?;
-        let text = format!("FILE: {}", String::from_utf8_lossy(path.name().unwrap_or_default()));
+        let text = [b"FILE: ", path.name().unwrap_or_default()].concat();
         let cut = self.server.settings.cut_uploads;
         let target = Target::Absent(self.folder.clone(), path, New::Unique, cut);
-        self.receive(target, Start::Offset(0), text)
+        self.receive(target, Start::Offset(0), Reply::of_bytes(Code::FILE_STATUS_OKAY, text))
     }
 
     /// The answer of a file that is received.
-    fn receive(
-        &self,
-        target: Target,
-        start: Start,
-        text: impl Into<Cow<'static, str>>,
-    ) -> Answered {
+    fn receive(&self, target: Target, start: Start, opening: Reply) -> Answered {
         let work = Work::Receive { target, start, representation: self.representation };
-        Ok(Answer::Transfer(opening(text), work))
+        Ok(Answer::Transfer(opening, work))
     }
 
     pub async fn list(&mut self, named: &[u8], form: Form) -> Answered {
@@ -204,18 +199,21 @@ impl Session {
         let listed = listed.await.map_err(|error| replies::of_listing_error(&error));
         let (is_of_directory, text) = listed?;
         let code = if is_of_directory { Code::DIRECTORY_STATUS } else { Code::FILE_STATUS };
-        let text = String::from_utf8_lossy(&text);
-        let entries = text.split_terminator("\r\n").map(|line| format!(" {line}"));
-        let lines = ["Status:".to_string()].into_iter().chain(entries);
-        Ok(Answer::Reply(Reply::with_lines(code, lines.chain(["End".to_string()]))))
+        let mut shown = b"Status:\r\n".to_vec();
+        for line in text.split_inclusive(|byte| *byte == b'\n') {
+            shown.push(b' ');
+            shown.extend_from_slice(line);
+        }
+        shown.extend_from_slice(b"End");
+        Ok(Answer::Reply(Reply::of_bytes(code, shown)))
     }
 
     pub async fn show_facts(&mut self, named: &[u8]) -> Answered {
         self.needs(Rights::may_read)?;
-        let name = self.directory.join(named).text();
+        let name = with_nul(&self.directory.join(named).bytes());
         let facts = self.look_up(named, Folder::facts).await?;
         let shown = fact_list(&self.facts, &facts, self.rights);
-        let lines = ["Facts:".to_string(), format!(" {shown}{name}"), "End".to_string()];
+        let lines = [b"Facts:".to_vec(), [b" ", shown.as_bytes(), &name].concat(), b"End".to_vec()];
         Ok(Answer::Reply(Reply::with_lines(Code::FILE_ACTION_OKAY, lines)))
     }
 
@@ -251,8 +249,8 @@ impl Session {
         let seconds = modified.assume_utc().unix_timestamp();
         let facts = self.change(&named, move |folder, path| folder.set_modified(path, seconds));
         let time = time_value(&facts.await?).unwrap_or_default();
-        let named = String::from_utf8_lossy(&named);
-        reply(Code::FILE_STATUS, format!("Modify={time}; {named}"))
+        let text = [b"Modify=", time.as_bytes(), b"; ", &with_nul(&named)].concat();
+        Ok(Answer::Reply(Reply::of_bytes(Code::FILE_STATUS, text)))
     }
 
     /// SITE CHMOD: a mode in octal digits and a file or a directory.
@@ -279,7 +277,7 @@ impl Session {
     pub async fn make_directory(&mut self, named: &[u8]) -> Answered {
         self.needs(Rights::may_add)?;
         self.in_folder(named, Folder::make_directory).await?;
-        reply(Code::DIR_CREATED, self.directory.join(named).quoted())
+        directory(&self.directory.join(named))
     }
 
     pub async fn rename_from(&mut self, named: &[u8]) -> Answered {

@@ -39,16 +39,6 @@ impl FilePath {
         [b"/", &self.names.join(&b'/')[..]].concat()
     }
 
-    /// The same for a reply, with U+FFFD for what is not UTF-8, and CR NUL for a CR (RFC 854).
-    pub fn text(&self) -> String {
-        String::from_utf8_lossy(&self.bytes()).replace('\r', "\r\0")
-    }
-
-    /// The same in quotes, with those of its own doubled (RFC 959, appendix II).
-    pub fn quoted(&self) -> String {
-        format!("\"{}\"", self.text().replace('"', "\"\""))
-    }
-
     /// Its last name.
     pub fn name(&self) -> Option<&[u8]> {
         self.names.last().map(Vec::as_slice)
@@ -328,7 +318,7 @@ mod tests {
             ("/", "/"),
             ("...", "/a/b/..."),
         ] {
-            assert_eq!(directory.join(named.as_bytes()).text(), path, "{named}");
+            assert_eq!(directory.join(named.as_bytes()).bytes(), path.as_bytes(), "{named}");
         }
     }
 }

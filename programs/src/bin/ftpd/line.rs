@@ -37,6 +37,18 @@ fn without_nul(text: &[u8]) -> Vec<u8> {
     text
 }
 
+/// With CR NUL for each CR, as a reply has a name (RFC 854).
+pub fn with_nul(text: &[u8]) -> Vec<u8> {
+    let mut sent = Vec::with_capacity(text.len());
+    for byte in text {
+        sent.push(*byte);
+        if *byte == b'\r' {
+            sent.push(0);
+        }
+    }
+    sent
+}
+
 /// The first word, and the path after it.
 pub fn first_word(text: &[u8]) -> (&[u8], Vec<u8>) {
     let end = text.iter().position(|byte| *byte == b' ').unwrap_or(text.len());
@@ -47,6 +59,12 @@ pub fn first_word(text: &[u8]) -> (&[u8], Vec<u8>) {
 #[cfg(test)]
 mod tests {
     use super::*;
+
+    #[test]
+    fn a_carriage_return_is_sent_with_nul() {
+        assert_eq!(with_nul(b"a\r\xe9\r"), b"a\r\0\xe9\r\0");
+        assert_eq!(without_nul(&with_nul(b"\r\0\r")), b"\r\0\r");
+    }
 
     #[test]
     fn options_are_not_listed() {

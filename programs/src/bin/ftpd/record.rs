@@ -31,7 +31,7 @@ impl Outcome {
     /// That of a reply.
     pub fn of(reply: &Reply, error: Option<String>) -> Outcome {
         let code = reply.code().to_string();
-        let text = reply.lines().next().unwrap_or_default();
+        let text = text(reply.lines().next().unwrap_or_default());
         let result =
             if code.starts_with('2') { "ok".to_string() } else { format!("{code} {text}") };
         Outcome { result, error }

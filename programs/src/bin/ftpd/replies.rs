@@ -19,8 +19,8 @@ pub fn of_refusal(refusal: Refusal) -> Reply {
 pub fn of_listing_error(error: &io::Error) -> Reply {
     let reply = of_error(error);
     if reply.code() == Code::FILE_ERROR {
-        let text = reply.lines().next().unwrap_or_default().to_owned();
-        return Reply::new(Code::TRANSIENT_FILE_ERROR, text);
+        let text = reply.lines().next().unwrap_or_default().to_vec();
+        return Reply::of_bytes(Code::TRANSIENT_FILE_ERROR, text);
     }
     reply
 }

@@ -9,7 +9,7 @@ use Rattle.unftp_control_c.specs.Numbers.{status_number}
 use Rattle.unftp_control_c.proofs.CallLemmas.{FirstEvent, NextLeft, gave, no_room, gives_some, left_so}
 use Rattle.unftp_control_c.proofs.FoundRoomLemmas.{found_room}
 use Rattle.unftp_control_c.proofs.RoomLemmas.{lengths}
-use Rattle.unftp_control_c.proofs.ReplyRoomLemmas.{reply_room}
+use Rattle.unftp_control_c.proofs.ReplyRoomLemmas.{quoted_room, reply_room}
 use Rattle.unftp_control_c.proofs.laws.rooms_are_bounded.Goals as goal
 
 ends_small : {call : Call} (k : ℕ) → line_feed_from call.bytes call.connection.offset ≡ Some k
@@ -41,7 +41,8 @@ pub returns : goal.returns
 returns c = record {
   line = λ call left k leaves at. bounded call left k at (left_so call left leaves);
   limit = λ call left leaves some wide. has_room call left some wide (left_so call left leaves);
-  reply_of_a_line = λ code text bytes out is lacks. (reply_room code text bytes out is).1 lacks;
-  reply = λ code text bytes out is. (reply_room code text bytes out is).0;
+  reply_of_a_line = λ code text out. (reply_room code text out).1;
+  reply = λ code text out. (reply_room code text out).0;
+  quoted = quoted_room;
   lines = found_room;
 }

@@ -5,6 +5,6 @@ use Rattle.unftp_control_codecs.proofs.encoding.append_padded_lines.Given as goa
 abbrev pub invariant-loop-line : goal.invariant-loop-line
 invariant-loop-line g l = record {
   items : l.buf.items ≡ l.fn.buf.items ++ flat_map padded_line
-      (map g.S.AsStr.text (take l.line-index l.lines));
+      (map g.S.AsSlice.items (take l.line-index l.lines));
   capacity : vec_capacity l.fn.buf ≤ vec_capacity l.buf;
 }
