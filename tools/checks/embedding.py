@@ -291,7 +291,7 @@ def check_answers(*arguments):
 
 
 # the calls of the rows that a program in C answers
-IN_C = ["canonical", "client", "decode", "encode", "forward", "log", "parse", "read"]
+IN_C = ["canonical", "client", "decode", "encode", "forward", "list_path", "log", "parameter", "parse", "read"]
 
 
 def check_worked(*program):

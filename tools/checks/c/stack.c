@@ -28,6 +28,8 @@ enum {
 
     /* the names of the calls */
     NEXT = 0,
+    PARAMETER,
+    LIST_PATH,
     REPLY,
     FRONT_REPLY,
     REPLY_LINES,
@@ -55,6 +57,8 @@ struct bytes {
 
 static const char *const names[CALLS] = {
     "unftp_next",
+    "unftp_parameter",
+    "unftp_list_path",
     "unftp_reply",
     "unftp_front_reply",
     "unftp_reply_lines",
@@ -133,6 +137,8 @@ static void call(int name, struct bytes input, size_t room)
     case NEXT:
         result = unftp_next(&connection, input.at, input.len, area.at, room, &line);
         break;
+    case PARAMETER: unftp_parameter(input.at, input.len, area.at, room, &len); break;
+    case LIST_PATH: unftp_list_path(input.at, input.len, area.at, room, &len); break;
     case REPLY: unftp_reply(299, input.at, input.len, area.at, room, &len); break;
     case FRONT_REPLY: unftp_front_reply(input.at, input.len, &reply); break;
     case REPLY_LINES: unftp_reply_lines(input.at, input.len, area.at, room, &len); break;
