@@ -316,8 +316,8 @@ struct unftp_address {
  * UTF-8, with the letters a to z in upper case. The value is what the line has after it, without
  * the line's end: a CR that was sent as CR NUL, or as the parameter's first byte, is one CR. Values
  * are UTF-8, with U+FFFD for each ill-formed part, but those of USER, PASS, ACCT and STAT, which
- * are the bytes that were sent. At UNFTP_NO_ROOM the area needs name_len + value_len bytes; a line
- * of n bytes needs at most 3 n.
+ * are the bytes that were sent: unftp_parameter writes these of any line. At UNFTP_NO_ROOM the area
+ * needs name_len + value_len bytes; a line of n bytes needs at most 3 n.
  *
  * A line of more bytes than the limit is UNFTP_LINE_TOO_LONG once it has ended, whatever it holds.
  * Where a longer line comes in pieces, its bytes are used up at UNFTP_MORE, so fewer than limit
@@ -331,6 +331,39 @@ struct unftp_address {
 enum unftp_result unftp_next(struct unftp_connection *connection,
                              const char *bytes, size_t bytes_len,
                              char *area, size_t area_room, struct unftp_line *line) UNFTP_NONNULL;
+
+/*
+ * Writes the value of a line's parameter to the start of out, and *len is how many bytes it has:
+ * those that were sent, also bytes that are not UTF-8 or that a command ignores, without the line's
+ * end. A CR that was sent as CR NUL (RFC 854), or as the parameter's first byte, is one CR. Pass
+ * what unftp_next used up, but at UNFTP_LINE_TOO_LONG; which verb the line has is not looked at.
+ *
+ *     the line               unftp_parameter        unftp_list_path
+ *     TYPE A                 A                      A
+ *     RETR caf\xe9           caf\xe9                caf\xe9
+ *     LIST -la x             -la x                  x
+ *     LIST                   no bytes               no bytes
+ *     SITE CHMOD 644 a       CHMOD 644 a            CHMOD 644 a
+ *
+ * SITE's parameter is a subcommand and a parameter of that, cut as a line is. For the value of the
+ * latter pass the line without its first five bytes, SITE and the byte after it: that of the last
+ * line above is 644 a. What was written has no line end, and can't be cut so again.
+ *
+ * It returns UNFTP_DONE; UNFTP_INVALID_EOL exactly where the parameter has no value, also where its
+ * command ignores it, as in "TYPE A\rb\r\n"; or UNFTP_NO_ROOM, where *len is the room that is
+ * needed, at most line_len. out is as it was but at UNFTP_DONE. It takes no memory.
+ */
+enum unftp_result unftp_parameter(const char *line, size_t line_len,
+                                  char *out, size_t out_room, size_t *len) UNFTP_NONNULL;
+
+/*
+ * Writes the path of LIST or NLST, the end of what unftp_parameter writes: what comes after words
+ * that begin with a dash, each with one space after it. They are options, as those of `ls`; no RFC
+ * has them. After the word `--` there is no other, so of `LIST -l -- -x` it is -x. It returns what
+ * unftp_parameter does, with the length of the path.
+ */
+enum unftp_result unftp_list_path(const char *line, size_t line_len,
+                                  char *out, size_t out_room, size_t *len) UNFTP_NONNULL;
 
 /*
  * Writes the bytes of a reply to the start of out, and *len is how many they are (RFC 959, section

@@ -286,7 +286,20 @@ def check_answers(*arguments):
 
 
 # the calls of the rows that a program in C answers
-IN_C = ["canonical", "client", "decode", "encode", "forward", "lines", "log", "parse", "quoted_path", "read"]
+IN_C = [
+    "canonical",
+    "client",
+    "decode",
+    "encode",
+    "forward",
+    "lines",
+    "list_path",
+    "log",
+    "parameter",
+    "parse",
+    "quoted_path",
+    "read",
+]
 
 
 def check_worked(*program):

@@ -9,7 +9,7 @@ use std::fmt::{self, Display, Formatter};
 pub enum Error {
     /// An allocation of the library or of an area failed. The same call may be made again.
     OutOfMemory,
-    /// The line is no command.
+    /// The line is no command, or its parameter has no value.
     Refused(Refusal),
     /// No line whose one line feed is its last byte is read as this command.
     NoLine,
@@ -40,9 +40,9 @@ impl Error {
             _ => match Refusal::of_status(status) {
                 Some(refusal) => Error::Refused(refusal),
                 None => unreachable!(
-                    "`reply_bytes`, `IsCanonical`, `IsForwardedLine`, `IsExchangeLine` and \
-                     `IsWrittenBy` leave no status {status} for a code from 100 to 599 and an \
-                     address of its form's length"
+                    "`reply_bytes`, `IsCanonical`, `IsForwardedLine`, `IsExchangeLine`, \
+                     `IsWrittenBy` and `or_invalid_eol` leave no status {status} for a code from \
+                     100 to 599 and an address of its form's length"
                 ),
             },
         }

@@ -1,3 +1,4 @@
+use crate::area::written;
 use crate::command::Command;
 use crate::ffi;
 use std::error::Error;
@@ -46,23 +47,36 @@ pub struct Line<'a> {
 }
 
 impl<'a> Line<'a> {
-    /// The bytes of its parameter as they came, without the line's end: what follows the verb and
-    /// the one byte that ends it, a space or a CR. A second space is part of the parameter. It is
-    /// empty where the line has none, or is longer than the limit. That of PASS is the password.
+    /// The value of its parameter, as [`parameter`] has it: any bytes, also those that its command
+    /// ignores. It is empty where the line has none, or is longer than the limit. That of PASS is
+    /// the password.
     ///
     /// ```
     /// use unftp_control::Pending;
     ///
     /// let mut pending = Pending::new();
-    /// pending.push(b"TYPE A\r\nTYPE  L 8\r\n")?;
+    /// pending.push(b"TYPE A\r\nRETR caf\xe9\r\n")?;
     /// let line = pending.next_line()?.expect("a line");
-    /// assert_eq!(line.parameter(), b"A");
+    /// assert_eq!(line.parameter()?, b"A");
     /// let line = pending.next_line()?.expect("a line");
-    /// assert_eq!(line.parameter(), b" L 8");
+    /// assert_eq!(line.parameter()?, b"caf\xe9");
     /// # Ok::<(), unftp_control::Error>(())
     /// ```
-    pub fn parameter(&self) -> &'a [u8] {
-        parameter_of(self.bytes)
+    ///
+    /// # Errors
+    ///
+    /// Those of [`parameter`].
+    pub fn parameter(&self) -> Result<Vec<u8>, crate::Error> {
+        parameter(self.bytes)
+    }
+
+    /// The path of LIST or NLST, as [`list_path`] has it.
+    ///
+    /// # Errors
+    ///
+    /// Those of [`parameter`].
+    pub fn list_path(&self) -> Result<Vec<u8>, crate::Error> {
+        list_path(self.bytes)
     }
 }
 
@@ -73,14 +87,53 @@ impl Debug for Line<'_> {
     }
 }
 
-/// The parameter of a line whose one line feed is its last byte.
-pub(crate) fn parameter_of(line: &[u8]) -> &[u8] {
-    let verb_ends = |byte: &u8| matches!(byte, b' ' | b'\r' | b'\n');
-    let rest = line.splitn(2, verb_ends).nth(1).unwrap_or_default();
-    match rest.strip_suffix(b"\n") {
-        Some(parameter) => parameter.strip_suffix(b"\r").unwrap_or(parameter),
-        None => rest,
-    }
+/// The value of a line's parameter: the bytes that were sent, without the line's end. The parameter
+/// follows the verb and the one byte that ends it, a space or a CR; a second space is part of it. A
+/// CR that was sent as CR NUL (RFC 854), or as the first byte, is one CR.
+///
+/// SITE's parameter is a subcommand and a parameter of that, cut as a line is. For the value of the
+/// latter pass the line without its first five bytes, SITE and the byte after it. A value has no
+/// line end, and can't be cut so again.
+///
+/// ```
+/// use unftp_control::parameter;
+///
+/// assert_eq!(parameter(b"RETR caf\xe9\r\n")?, b"caf\xe9");
+/// assert_eq!(parameter(b"RETR a\r\0b\r\n")?, b"a\rb");
+/// let line = b"SITE CHMOD 644 a\r\n";
+/// assert_eq!(parameter(line)?, b"CHMOD 644 a");
+/// assert_eq!(parameter(&line[5..])?, b"644 a");
+/// # Ok::<(), unftp_control::Error>(())
+/// ```
+///
+/// # Errors
+///
+/// [`Error::Refused`](crate::Error::Refused) with [`Refusal::InvalidEol`] exactly where the
+/// parameter has no value: where it has no end, or a CR in it has no NUL. A command that ignores its
+/// parameter may come by such a line, as by `TYPE A\rb`. And
+/// [`Error::OutOfMemory`](crate::Error::OutOfMemory).
+pub fn parameter(line: &[u8]) -> Result<Vec<u8>, crate::Error> {
+    written(line.len(), |out| ffi::parameter(line, out))
+}
+
+/// The path of LIST or NLST, the end of what [`parameter`] returns: what comes after words that begin
+/// with a dash, each with one space after it. They are options, as those of `ls`; no RFC has them.
+/// After the word `--` there is no other.
+///
+/// ```
+/// use unftp_control::list_path;
+///
+/// assert_eq!(list_path(b"LIST -la caf\xe9\r\n")?, b"caf\xe9");
+/// assert_eq!(list_path(b"NLST -l -- -x\r\n")?, b"-x");
+/// assert_eq!(list_path(b"LIST -l\r\n")?, b"");
+/// # Ok::<(), unftp_control::Error>(())
+/// ```
+///
+/// # Errors
+///
+/// Those of [`parameter`].
+pub fn list_path(line: &[u8]) -> Result<Vec<u8>, crate::Error> {
+    written(line.len(), |out| ffi::list_path(line, out))
 }
 
 /// Why a line is no command.

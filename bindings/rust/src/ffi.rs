@@ -128,6 +128,24 @@ extern "C" {
         line: *mut Line,
     ) -> u32;
 
+    #[cfg_attr(not(feature = "system"), link_name = own_name!("parameter"))]
+    fn unftp_parameter(
+        line: *const u8,
+        line_len: usize,
+        out: *mut u8,
+        out_room: usize,
+        len: *mut usize,
+    ) -> u32;
+
+    #[cfg_attr(not(feature = "system"), link_name = own_name!("list_path"))]
+    fn unftp_list_path(
+        line: *const u8,
+        line_len: usize,
+        out: *mut u8,
+        out_room: usize,
+        len: *mut usize,
+    ) -> u32;
+
     #[cfg_attr(not(feature = "system"), link_name = own_name!("reply"))]
     fn unftp_reply(
         code: u32,
@@ -275,6 +293,30 @@ pub(crate) fn next(connection: &mut Connection, bytes: &[u8], area: &mut [u8]) -
         )
     };
     (status, line)
+}
+
+/// Calls `unftp_parameter`: what it returns, and the length.
+pub(crate) fn parameter(line: &[u8], out: &mut [u8]) -> (u32, usize) {
+    check_version();
+    let mut len = 0;
+    // SAFETY: no pointer is null, since each is of a reference, and each length is that of the
+    // slice beside it. Nothing overlaps: `out` is mutably borrowed, and `len` is a variable here.
+    let status = unsafe {
+        unftp_parameter(line.as_ptr(), line.len(), out.as_mut_ptr(), out.len(), &mut len)
+    };
+    (status, len)
+}
+
+/// Calls `unftp_list_path`: what it returns, and the length.
+pub(crate) fn list_path(line: &[u8], out: &mut [u8]) -> (u32, usize) {
+    check_version();
+    let mut len = 0;
+    // SAFETY: no pointer is null, since each is of a reference, and each length is that of the
+    // slice beside it. Nothing overlaps: `out` is mutably borrowed, and `len` is a variable here.
+    let status = unsafe {
+        unftp_list_path(line.as_ptr(), line.len(), out.as_mut_ptr(), out.len(), &mut len)
+    };
+    (status, len)
 }
 
 /// Calls `unftp_reply`: what it returns, and the length.

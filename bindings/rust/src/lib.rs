@@ -143,7 +143,7 @@ pub use code::{ReplyCode, UnknownCode};
 pub use codec::{CodecError, FtpClientCodec, FtpCodec, RawLine};
 pub use command::Command;
 pub use error::Error;
-pub use event::{Event, Line, Refusal};
+pub use event::{list_path, parameter, Event, Line, Refusal};
 #[cfg(feature = "tokio-util")]
 pub use line_codec::{FtpLineCodec, OwnedLine};
 pub use lines::LINE_LIMIT;

@@ -1,5 +1,5 @@
 use crate::codec::{incomplete, CodecError};
-use crate::event::{parameter_of, Event, Refusal};
+use crate::event::{list_path, parameter, Event, Refusal};
 use crate::lines::{Lines, LINE_LIMIT};
 use crate::log::log_line;
 use crate::reply::Reply;
@@ -22,9 +22,22 @@ pub struct OwnedLine {
 }
 
 impl OwnedLine {
-    /// The bytes of its parameter, as [`Line::parameter`](crate::Line::parameter).
-    pub fn parameter(&self) -> &[u8] {
-        parameter_of(&self.bytes)
+    /// The value of its parameter, as [`Line::parameter`](crate::Line::parameter).
+    ///
+    /// # Errors
+    ///
+    /// Those of [`parameter`].
+    pub fn parameter(&self) -> Result<Vec<u8>, crate::Error> {
+        parameter(&self.bytes)
+    }
+
+    /// The path of LIST or NLST, as [`list_path`] has it.
+    ///
+    /// # Errors
+    ///
+    /// Those of [`parameter`].
+    pub fn list_path(&self) -> Result<Vec<u8>, crate::Error> {
+        list_path(&self.bytes)
     }
 
     /// Its [`log_line`].
@@ -57,7 +70,7 @@ impl Debug for OwnedLine {
 /// let line = codec.decode(&mut input)?.expect("a line");
 /// assert_eq!(line.event, Event::Command(Command::Type));
 /// assert_eq!(line.bytes, "TYPE A\r\n");
-/// assert_eq!(line.parameter(), b"A");
+/// assert_eq!(line.parameter()?, b"A");
 /// assert!(codec.decode(&mut input)?.is_none());
 /// # Ok::<(), unftp_control::CodecError>(())
 /// ```

@@ -310,26 +310,25 @@ fn debug_of_a_line_shows_its_event() -> Result<(), Error> {
 }
 
 #[test]
-fn a_parameter_follows_the_byte_that_ends_the_verb() -> Result<(), Error> {
-    for (line, parameter) in [
-        (&b"TYPE A\r\n"[..], &b"A"[..]),
-        (b"TYPE A\n", b"A"),
-        (b"TYPE  A \r\n", b" A "),
-        (b"TYPE\r\n", b""),
-        (b"TYPE\n", b""),
-        (b"TYPE \r\n", b""),
-        (b"TYPE\r\r\n", b""),
-        (b"TYPE\rA\r\r\n", b"A\r"),
-        (b" A\r\n", b"A"),
-        (b"\n", b""),
-        (b"SITE CHMOD 644 a\xff\r\n", b"CHMOD 644 a\xff"),
-        (b"NOOP x\r\n", b"x"),
+fn a_line_has_the_value_of_its_parameter() -> Result<(), Error> {
+    let no_value = Err(Error::Refused(Refusal::InvalidEol));
+    for (line, value, path) in [
+        (&b"TYPE A\r\n"[..], Ok(&b"A"[..]), Ok(&b"A"[..])),
+        (b"TYPE  A \n", Ok(b" A "), Ok(b" A ")),
+        (b"LIST -la x\r\n", Ok(b"-la x"), Ok(b"x")),
+        (b"LIST -\r\0 -- a\r\0b\r\n", Ok(b"-\r -- a\rb"), Ok(b"a\rb")),
+        (b"NLST\r\n", Ok(b""), Ok(b"")),
+        (b"\n", Ok(b""), Ok(b"")),
+        (b"SITE CHMOD 644 a\xff\r\n", Ok(b"CHMOD 644 a\xff"), Ok(b"CHMOD 644 a\xff")),
+        (b"TYPE A\rb\r\n", no_value, no_value),
         // longer than the limit
-        (b"RETR 0123456789012345678901234567890\r\n", b""),
+        (b"RETR 0123456789012345678901234567890\r\n", Ok(b""), Ok(b"")),
     ] {
         let mut pending = Pending::with_limit(30);
         pending.push(line)?;
-        assert_eq!(pending.next_line()?.expect("a line").parameter(), parameter, "{line:?}");
+        let taken = pending.next_line()?.expect("a line");
+        assert_eq!(taken.parameter(), value.map(<[u8]>::to_vec), "{line:?}");
+        assert_eq!(taken.list_path(), path.map(<[u8]>::to_vec), "{line:?}");
     }
     Ok(())
 }

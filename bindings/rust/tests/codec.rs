@@ -388,7 +388,7 @@ async fn a_line_comes_with_its_event() {
     while let Some(Ok(line)) = framed.next().await {
         assert_eq!(format!("{line:?}"), format!("OwnedLine {{ event: {:?}, .. }}", line.event));
         assert!(!format!("{line:?}").contains("secret"));
-        parameters.extend_from_slice(line.parameter());
+        parameters.extend(line.parameter().expect("each has a value"));
         parameters.push(b',');
         lines.push((line.event, line.bytes));
     }

@@ -6,8 +6,8 @@ use common::{
     bytes, calls, limit, pieces, shown_decoded, shown_event, shown_reply, sizes, without_lefts,
 };
 use unftp_control::{
-    canonical, forward, log_exchange, quoted_path, reply, Error, Pending, Reply, ReplyCode,
-    ReplyDecoder,
+    canonical, forward, list_path, log_exchange, parameter, quoted_path, reply, Error, Pending,
+    Refusal, Reply, ReplyCode, ReplyDecoder,
 };
 
 /// The events of all lines that are pending.
@@ -66,20 +66,36 @@ fn each_other_line_is_forwarded_with_its_parameter() {
             let Ok(forwarded) = forward(&line) else { continue };
             let verb_ends = |byte: &u8| b" \r\n".contains(byte);
             let verb = line.split(verb_ends).next().expect("a verb").to_ascii_uppercase();
-            let mut pending = Pending::with_limit(0);
-            pending.push(&line).expect("memory is there");
-            let taken = pending.next_line().expect("memory is there").expect("a line");
             let wanted = if CANONICAL.iter().any(|it| it.as_bytes() == verb) {
                 canonical(&line).expect("it is a command")
             } else {
-                let space: &[u8] = if taken.parameter().is_empty() { b"" } else { b" " };
-                [&verb, space, taken.parameter(), b"\r\n"].concat()
+                let text = line.strip_suffix(b"\n").expect("it is one line");
+                let text = text.strip_suffix(b"\r").unwrap_or(text);
+                let sent = text.get(verb.len() + 1..).unwrap_or_default();
+                let space: &[u8] = if sent.is_empty() { b"" } else { b" " };
+                [&verb, space, sent, b"\r\n"].concat()
             };
             assert_eq!(forwarded, wanted, "{words:?}");
             lines += 1;
         }
     }
     assert!(lines > 1000, "{lines} lines");
+}
+
+#[test]
+fn each_line_has_the_parameter_that_the_vectors_say() {
+    let shown = |value: Result<Vec<u8>, Error>| match value {
+        Ok(value) => quoted(&value),
+        Err(Error::Refused(Refusal::InvalidEol)) => "none".to_string(),
+        Err(error) => panic!("{error}"),
+    };
+    for (call, of) in [("parameter", parameter as fn(&[u8]) -> _), ("list_path", list_path)] {
+        let rows = calls("worked.tsv", &[call]);
+        assert!(rows.len() >= 10, "{} rows", rows.len());
+        for (words, answer) in rows {
+            assert_eq!(shown(of(&bytes(&words[0]))), answer, "{call} {words:?}");
+        }
+    }
 }
 
 #[test]

@@ -9,6 +9,7 @@ pub mod FoundRoomLemmas
 pub mod LogRoomLemmas
 pub mod LineLemmas
 pub mod NextLemmas
+pub mod ParameterRoomLemmas
 pub mod ReplyLemmas
 pub mod ReplyRoomLemmas
 pub mod RoomLemmas

@@ -47,7 +47,7 @@ told : (answer : Outcome) (parts : Said) → MeansCommand answer parts → room 
 told (Ok command) parts tells = ap said_room tells
 told (Err refusal) parts tells = absurd tells
 
-path_length : (text : Bytes) → length (path_of text) ≤ length text
+pub path_length : (text : Bytes) → length (path_of text) ≤ length text
 path_length text = path_of-keeps (λ path. length path ≤ length text) (omega arith)
     (λ front path h. omega (arith, h, length-append front (SP ∷ path))) text (omega arith)
 
@@ -59,7 +59,7 @@ later_length ends_lf = omega arith
 later_length (cr_nul h) = omega (arith, later_length h)
 later_length (byte no_cr may h) = omega (arith, later_length h)
 
-reads_length : {parameter v : Bytes} → Reads parameter v → length v ≤ length parameter
+pub reads_length : {parameter v : Bytes} → Reads parameter v → length v ≤ length parameter
 reads_length nothing = omega arith
 reads_length ended = omega arith
 reads_length ended_crlf = omega arith

@@ -5,6 +5,7 @@ pub mod Next
 pub mod Taking
 pub mod Rows
 pub mod Replies
+pub mod Parameters
 pub mod CanonicalLines
 pub mod ForwardedLines
 pub mod LogLines

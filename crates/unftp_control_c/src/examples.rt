@@ -14,6 +14,7 @@ ghost use Rattle.unftp_control_c.specs.declared.status.Status.TheVariants.{Inval
 
 pub mod addresses;
 pub mod calls;
+pub mod parameters;
 pub mod sessions;
 
 use unftp_control_message::reply::error::ParseErrorKind;

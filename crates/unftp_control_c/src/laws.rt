@@ -26,6 +26,7 @@ ghost use Rattle.unftp_control_c.specs.LogLines.{IsLogLine, numbered_log_line};
 ghost use Rattle.unftp_control_c.specs.Logins.{Kept, decision_at, kept_after, kept_after_all, login_step, nobody, progress_of, stage_number, stage_of};
 ghost use Rattle.unftp_control_c.specs.Next.{Call, Given, Leaves, Left, given_for, line_limit, scans};
 ghost use Rattle.unftp_control_c.specs.Numbers.{status_number};
+ghost use Rattle.unftp_control_c.specs.Parameters.{list_path_bytes, parameter_bytes};
 ghost use Rattle.unftp_control_c.specs.Replies.{IsFoundText, reply_bytes};
 ghost use Rattle.unftp_control_c.specs.Taking.{AreCallerSteps, Caller, CallerStep, IsNumberOf, after_call, all_given, caller_call, gives_none, input_of, new_caller, scanned_by, unscanned};
 ghost use Rattle.unftp_control_c.specs.declared.client.Client.{Client as RustClient};
@@ -131,6 +132,10 @@ pub fn rooms_are_bounded()
     // The lines of a reply have at most as many bytes as it.
     ensures lines { (bytes : Bytes) (text : Made) (out : Bytes)
         → IsFoundText bytes text → (written text out).text_length ≤ length bytes }
+    // The value of a line's parameter has at most as many bytes as the line, and so has its path.
+    ensures parameter { (line out : Bytes)
+        → ((written (parameter_bytes line) out).text_length ≤ length line)
+        × ((written (list_path_bytes line) out).text_length ≤ length line) }
 {}
 
 /// So much room the lines of a log need at most.

@@ -14,6 +14,7 @@ pub mod laws;
 mod log;
 mod login;
 mod next;
+mod parameter;
 mod reply;
 mod status;
 mod version;

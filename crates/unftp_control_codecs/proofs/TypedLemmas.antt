@@ -1,10 +1,8 @@
 -- What a command with a type of its own makes of a value that is sent with NULs.
-use Rattle.std.proofs.Common.{◌≡◌, ◌<◌, length, take, Err, refl, sym, ap, ◌∙◌, arith, ⊎_elim, length-take, take_all}
-use Rattle.std.proofs.lemmas.Bool.{cases_lt, lt-ltb}
+use Rattle.std.proofs.Common.{◌≡◌, refl}
 use Rattle.std.specs.Str.Lossy.{utf8_lossy}
 use Rattle.unftp_control_defs.specs.Bytes.{Bytes}
-use Rattle.unftp_control_defs.specs.FtpCommand.{InvalidCommand}
-use Rattle.unftp_control_defs.specs.Rules.{auth, typed_outcome, offset, structures, modes, protections, options, buffer_sizes}
+use Rattle.unftp_control_defs.specs.Rules.{typed_outcome, offset, structures, modes, protections, options, buffer_sizes}
 use Rattle.unftp_control_defs.specs.declared.verb.Verb.{Verb}
 use Rattle.unftp_control_defs.specs.declared.verb.Verb.TheVariants as verbs
 use Rattle.unftp_control_message.specs.SentValues.{unescaped}
@@ -22,13 +20,3 @@ same_answer verbs.Rest sent other =
     same_answer_unescaped (λ v. offset (utf8_lossy v)) offset_return sent
 same_answer verbs.Stru sent other = same_choice structures sent refl
 same_answer verb sent other = refl
-
-longer : (v : Bytes) → 3 < length v → auth v ≡ Err InvalidCommand
-longer v long = rw (lt-ltb 3 (length v) long) refl
-
--- of a value that may be a mechanism four bytes are enough
-pub auth-start : (v : Bytes) → auth (take 4 v) ≡ auth v
-auth-start v = ⊎_elim
-    (λ long. longer (take 4 v) (omega (arith, length-take 4 v)) ∙ sym (longer v long))
-    (λ short. ap auth (take_all 4 v (omega arith)))
-    (cases_lt 3 (length v))

@@ -3,4 +3,5 @@ mod ReplyLemmas
 pub mod PartsLemmas
 pub mod HeldLemmas
 pub mod SentLemmas
+pub mod WrittenValueLemmas
 pub mod SaidLemmas

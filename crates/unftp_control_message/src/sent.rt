@@ -1,5 +1,5 @@
 //! A value as it is sent, and as bytes or text.
-ghost use Rattle.std.specs.Prelude.{◌≡◌, ◌≤◌, ◌==◌, ◌<◌, ◌*◌, ◌++◌, IsTrue, IfOk, OnErr, length, string_bytes, take, drop};
+ghost use Rattle.std.specs.Prelude.{◌≡◌, ◌≤◌, ◌==◌, ◌<◌, ◌*◌, ◌++◌, IsTrue, IfOk, OnErr, length, string_bytes, drop};
 ghost use Rattle.std.specs.Str.Lossy.{utf8_lossy};
 ghost use Rattle.unftp_control_message.specs.SentValues.{after_nul, begins_with_cr_nul, cr_nul_count, first_unit_len, four_cr_nul, sent_bytes, unescaped, sent_value};
 
@@ -40,6 +40,32 @@ impl<'a> Sent<'a> {
         ensures { result ≡ (length (sent_value self.entry) == 0) }
     {
         self.sent().is_empty()
+    }
+
+    /// How many bytes the value has.
+    pub fn value_len(self) -> usize
+        ensures { result ≡ length (sent_value self.entry) }
+    {
+        match self {
+            Sent::Plain(bytes) => bytes.len(),
+            Sent::Escaped(sent) => unescaped_len(sent),
+        }
+    }
+
+    /// Writes the value to the start of an area, and changes no later byte of it. It takes no
+    /// memory. The area has to have `value_len` bytes at least.
+    pub fn write_to(self, area: &mut [u8])
+        requires { length (sent_value self) ≤ length area.old }
+        ensures { area.new ≡ sent_value self.entry
+            ++ drop (length (sent_value self.entry)) area.old }
+    {
+        match self {
+            Sent::Plain(bytes) => {
+                let (front, _) = area.split_at_mut(bytes.len());
+                front.copy_from_slice(bytes);
+            }
+            Sent::Escaped(sent) => unescape_to(sent, area),
+        }
     }
 
     /// Its bytes, in new memory; none take none.
@@ -191,20 +217,32 @@ pub fn unescape(alloc: Global, sent: &[u8]) -> Result<Vec<u8>, AllocError>
     }
 }
 
-/// The first bytes of the value for which these are sent, at most four, and how many they are.
-pub fn value_start(sent: &[u8]) -> ([u8; 4], usize)
-    ensures len { result.1 ≤ 4 }
-    ensures bytes { take result.1 result.0 ≡ take 4 (unescaped sent.now) }
+/// How many bytes the value has for which these are sent.
+pub fn unescaped_len(sent: &[u8]) -> usize
+    ensures { result ≡ length (unescaped sent.now) }
 {
-    let mut start = [0u8; 4];
+    let mut len = 0usize;
     let mut rest = sent;
-    for at in 0..4usize {
-        if rest.is_empty() {
-            return (start, at);
-        }
-        start[at] = rest[0];
+    'units: while !rest.is_empty() {
         let (_, further) = rest.split_at(first_unit_len(rest));
+        len += 1;
         rest = further;
     }
-    (start, 4)
+    len
+}
+
+/// Writes the value for which these bytes are sent to the start of an area, and changes no later
+/// byte of it. It takes no memory.
+pub fn unescape_to(sent: &[u8], area: &mut [u8])
+    requires { length (unescaped sent.now) ≤ length area.old }
+    ensures { area.new ≡ unescaped sent.now ++ drop (length (unescaped sent.now)) area.old }
+{
+    let mut at = 0usize;
+    let mut rest = sent;
+    'units: while !rest.is_empty() {
+        area[at] = rest[0];
+        let (_, further) = rest.split_at(first_unit_len(rest));
+        at += 1;
+        rest = further;
+    }
 }

@@ -7,7 +7,9 @@ use std::alloc::Global;
 use std::fmt::{Debug, Display};
 use std::io;
 use unftp_control_client::SendError;
-use unftp_control_codecs::line_parser::{ParseError, ParseErrorKind, is_verb, parse, parts};
+use unftp_control_codecs::line_parser::{
+    ParseError, ParseErrorKind, is_verb, list_path, parameter, parse, parts,
+};
 use unftp_control_codecs::{EncodeLinesError, FtpCodec};
 use unftp_control_message::Command;
 use unftp_control_message::parts::{Parts, Value};
@@ -159,6 +161,38 @@ pub fn answer_forward(words: &mut Words<'_>, answers: &mut Answers) -> Answered 
         (Err(ForwardError::Refused(error)), [b'x']) => put_refusal(error, answers),
         (forwarded, buf) => answers.put_appended(forwarded, buf),
     }
+}
+
+/// Writes a value through an area as long as its line, or that there is none.
+fn put_value(value: Option<Sent<'_>>, area: &mut [u8], answers: &mut Answers) -> Answered {
+    let Some(value) = value else {
+        answers.put("none");
+        return Ok(());
+    };
+    let len = value.value_len();
+    if len > area.len() {
+        answers.put("longer");
+        return Ok(());
+    }
+    value.write_to(area);
+    answers.put(Quoted(area.split_at(len).0));
+    Ok(())
+}
+
+/// `parameter LINE`
+pub fn answer_parameter(words: &mut Words<'_>, answers: &mut Answers) -> Answered {
+    let line = words.bytes()?;
+    let mut area = Vec::from_slice(answers.alloc, line)?;
+    answers.begin();
+    put_value(parameter(line), area.as_mut_slice(), answers)
+}
+
+/// `list_path LINE`
+pub fn answer_list_path(words: &mut Words<'_>, answers: &mut Answers) -> Answered {
+    let line = words.bytes()?;
+    let mut area = Vec::from_slice(answers.alloc, line)?;
+    answers.begin();
+    put_value(list_path(line), area.as_mut_slice(), answers)
 }
 
 /// `is_verb WORD..`

@@ -32,6 +32,8 @@ fn make_call(name: &str, words: &mut Words<'_>, answers: &mut Answers) -> Answer
         "write" => lines::answer_write(words, answers),
         "canonical" => lines::answer_canonical(words, answers),
         "forward" => lines::answer_forward(words, answers),
+        "parameter" => lines::answer_parameter(words, answers),
+        "list_path" => lines::answer_list_path(words, answers),
         "decode" => decoding::answer_decode(false, words, answers),
         "decode_slice" => decoding::answer_decode(true, words, answers),
         "events" => decoding::answer_events(false, words, answers),

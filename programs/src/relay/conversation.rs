@@ -460,7 +460,8 @@ impl Conversation {
     /// only a letter, as that of TYPE, is no secret.
     fn exchange(&self, line: &OwnedLine) -> Result<Exchange, End> {
         let shown = line.log_line()?;
-        let lacks_parameter = !shown.contains(' ') && line.parameter().len() > 1;
+        let is_short = line.parameter().is_ok_and(|value| value.len() <= 1);
+        let lacks_parameter = !shown.contains(' ') && !is_short;
         let mut exchange = Exchange::new(self.session, self.addresses.client, Some(shown));
         if lacks_parameter {
             exchange.hide();

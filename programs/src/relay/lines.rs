@@ -1,14 +1,14 @@
 //! What is done with each line of a client.
 use super::conversation::{Addresses, Conversation, Purpose, Verdict};
 use super::data::{listen, Direction, Route, Transfer};
-use super::rules::{is_option, parameter};
+use super::rules::is_option;
 use crate::address::{of_eprt, of_port};
 use crate::ports;
 use std::io;
 use std::net::{SocketAddr, SocketAddrV4};
 use unftp_control::{
-    extended, forward, host_port, AddressError, Command, Error, Event, ModeParam, OwnedLine, Reply,
-    ReplyCode as Code,
+    extended, forward, host_port, parameter, AddressError, Command, Error, Event, ModeParam,
+    OwnedLine, Reply, ReplyCode as Code,
 };
 
 /// The first port that is no system's own. A data connection to a lower one would reach a service
@@ -86,15 +86,14 @@ impl Conversation {
 
     /// EPSV. Its parameter is the protocol of the client's end, and the server's may be another.
     fn extended_passive(&self, sent: Vec<u8>) -> Verdict {
-        let parameter = parameter(&sent);
-        if parameter.eq_ignore_ascii_case(b"ALL") {
-            return Verdict::Send(sent, Purpose::PassOn);
-        }
         let own = if self.addresses.to_client.is_ipv4() { b"1" } else { b"2" };
-        if parameter.is_empty() || parameter == own {
-            Verdict::Send(b"EPSV\r\n".to_vec(), Purpose::Passive { is_extended: true })
-        } else {
-            self.other_protocol()
+        match parameter(&sent) {
+            Ok(all) if all.eq_ignore_ascii_case(b"ALL") => Verdict::Send(sent, Purpose::PassOn),
+            Ok(protocol) if protocol.is_empty() || protocol == own => {
+                Verdict::Send(b"EPSV\r\n".to_vec(), Purpose::Passive { is_extended: true })
+            }
+            Err(Error::OutOfMemory) => answer(Code::LOCAL_ERROR, "out of memory"),
+            _ => self.other_protocol(),
         }
     }
 

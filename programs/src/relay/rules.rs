@@ -88,12 +88,11 @@ pub fn is_option(line: &OwnedLine) -> bool {
 /// Whether a line is MDTM with a time before the path, as `MDTM 20010203040506 a`. Some servers set
 /// the time of the file then, as by MFMT. Eight digits are a date.
 fn sets_time(line: &OwnedLine) -> bool {
-    let parameter = String::from_utf8_lossy(parameter(&line.bytes));
     let is_time = |(word, _): (&str, &str)| {
         word.len() >= 8 && word.starts_with(|first: char| first.is_ascii_digit())
     };
-    matches!(line.event, Event::Command(Command::Mdtm { .. }))
-        && parameter.trim_start().split_once(' ').is_some_and(is_time)
+    matches!(&line.event, Event::Command(Command::Mdtm { file })
+        if file.trim_start().split_once(' ').is_some_and(is_time))
 }
 
 /// Whether what is sent for a line is clear: that ends by CR LF, also where the line ends by LF
@@ -101,10 +100,4 @@ fn sets_time(line: &OwnedLine) -> bool {
 fn is_sent_clear(line: &[u8]) -> bool {
     let text = line.strip_suffix(b"\r\n").or_else(|| line.strip_suffix(b"\n")).unwrap_or(line);
     is_clear(&[text, b"\r\n"].concat())
-}
-
-/// What comes after the verb of a line and one space, without the line's end.
-pub fn parameter(line: &[u8]) -> &[u8] {
-    let start = line.iter().position(|byte| *byte == b' ').map_or(line.len(), |space| space + 1);
-    line[start..].strip_suffix(b"\r\n").unwrap_or(&line[start..])
 }

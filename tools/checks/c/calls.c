@@ -197,6 +197,54 @@ static void check_written(line_call call, size_t most, const char *line, struct 
     free_area(out);
 }
 
+/* Writes the value of a line's parameter, or the path in it, with just enough room, at most that of
+   the line. The caller frees it; there is none where the parameter has no value. */
+static struct bytes value_of(line_call call, const char *line, size_t used, bool *has_value)
+{
+    struct bytes value = area_of(0), less;
+    size_t room, again;
+    enum unftp_result result = call(line, used, value.at, 0, &room);
+
+    *has_value = result != UNFTP_INVALID_EOL;
+    if (result != UNFTP_NO_ROOM) {
+        wants((!*has_value || result == UNFTP_DONE) && room == 0, "a value is empty, or none");
+        return value;
+    }
+    free_area(value);
+    wants(room > 0 && room <= used, "a value needs no more room than its line");
+    less = area_of(room - 1);
+    wants(call(line, used, less.at, room - 1, &again) == UNFTP_NO_ROOM && again == room
+              && is_filling(less),
+          "a value needs this room");
+    free_area(less);
+    value = area_of(room);
+    wants(call(line, used, value.at, room, &again) == UNFTP_DONE && again == room,
+          "a value has just enough room");
+    return value;
+}
+
+/* The parameter of a line: that of a command whose value is bytes is this value, and a path is its
+   end. */
+static void check_parameter(const char *line, struct taken taken)
+{
+    const char *given = taken.area.at + taken.line.name_len;
+    enum unftp_result number = taken.result;
+    bool has_value, has_path;
+    struct bytes value = value_of(unftp_parameter, line, taken.line.used, &has_value);
+    struct bytes path = value_of(unftp_list_path, line, taken.line.used, &has_path);
+
+    wants(has_path == has_value && path.len <= value.len
+              && memcmp(path.at, value.at + value.len - path.len, path.len) == 0,
+          "a path is the end of a value");
+    if (number == UNFTP_USER || number == UNFTP_PASS || number == UNFTP_ACCT
+        || number == UNFTP_STAT)
+        wants(has_value && value.len == taken.line.value_len
+                  && memcmp(value.at, given, value.len) == 0,
+              "a command's value is that of its line");
+    free_area(value);
+    free_area(path);
+}
+
 static bool is_text(struct bytes area, const char *text)
 {
     return area.len == strlen(text) && memcmp(area.at, text, area.len) == 0;
@@ -298,6 +346,7 @@ static void check_lines(struct bytes input)
         check_cuts(bytes, taken);
         check_written(unftp_canonical, 3 * taken.line.used, bytes, taken);
         check_written(unftp_forward, taken.line.used + 2, bytes, taken);
+        check_parameter(bytes, taken);
         check_logged(bytes, taken);
         start += taken.line.used;
         free_area(taken.area);

@@ -422,6 +422,37 @@ static bool answer_forward(struct words *words)
     return answer_written(words, unftp_forward, "NotALine");
 }
 
+/* A value of a line, in an area that is as long as the line, or that there is none. */
+static bool show_value(line_call call, struct words *words)
+{
+    struct bytes line, out;
+    enum unftp_result result;
+
+    if (words->count != 1 || !unquote_from(words, 0))
+        return false;
+    line = words->bytes[0];
+    out.at = room_of(line.len);
+    result = call(line.at, line.len, out.at, line.len, &out.len);
+    if (result == UNFTP_DONE)
+        show_quoted(out);
+    else if (result == UNFTP_INVALID_EOL)
+        fputs("none", stdout);
+    else
+        fail("no value of a line");
+    free(out.at);
+    return true;
+}
+
+static bool answer_parameter(struct words *words)
+{
+    return show_value(unftp_parameter, words);
+}
+
+static bool answer_list_path(struct words *words)
+{
+    return show_value(unftp_list_path, words);
+}
+
 static bool answer_log(struct words *words)
 {
     struct unftp_connection connection = {limit_of(words->at[0]), 0, 0};
@@ -597,6 +628,7 @@ static const struct {
     {"parse", answer_parse}, {"decode", answer_decode}, {"encode", answer_encode},
     {"lines", answer_lines}, {"quoted_path", answer_quoted_path},
     {"read", answer_read}, {"canonical", answer_canonical}, {"forward", answer_forward},
+    {"parameter", answer_parameter}, {"list_path", answer_list_path},
     {"log", answer_log}, {"exchange", answer_exchange}, {"client", answer_client},
     {"read_address", answer_read_address}, {"write_address", answer_write_address},
 };

@@ -28,6 +28,8 @@ enum {
 
     /* the names of the calls */
     NEXT = 0,
+    PARAMETER,
+    LIST_PATH,
     REPLY,
     QUOTED_PATH,
     FRONT_REPLY,
@@ -56,6 +58,8 @@ struct bytes {
 
 static const char *const names[CALLS] = {
     "unftp_next",
+    "unftp_parameter",
+    "unftp_list_path",
     "unftp_reply",
     "unftp_quoted_path",
     "unftp_front_reply",
@@ -135,6 +139,8 @@ static void call(int name, struct bytes input, size_t room)
     case NEXT:
         result = unftp_next(&connection, input.at, input.len, area.at, room, &line);
         break;
+    case PARAMETER: unftp_parameter(input.at, input.len, area.at, room, &len); break;
+    case LIST_PATH: unftp_list_path(input.at, input.len, area.at, room, &len); break;
     case REPLY: unftp_reply(299, input.at, input.len, area.at, room, &len); break;
     case QUOTED_PATH: unftp_quoted_path(input.at, input.len, area.at, room, &len); break;
     case FRONT_REPLY: unftp_front_reply(input.at, input.len, &reply); break;

@@ -91,7 +91,7 @@ pub fn listing(sent: Sent<'_>) -> Value<'_>
 
 /// The path of LIST in its value.
 // it is found in what is sent: a CR and its NUL are both in an option, or both in the path
-fn path_in<'a>(sent: Sent<'a>) -> Sent<'a>
+pub fn path_in<'a>(sent: Sent<'a>) -> Sent<'a>
     ensures { sent_value result ≡ path_of (sent_value sent.entry) }
 {
     let (_, path) = sent.sent().split_at(path_start(sent.sent()));

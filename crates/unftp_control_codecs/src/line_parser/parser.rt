@@ -1,11 +1,12 @@
 //! A line's verb and parameter, what it says, and the command that it is.
-ghost use Rattle.std.specs.Prelude.{◌≡◌, ◌≢◌, ◌≤◌, ◌<◌, ℕ, IsTrue, false, length, slice_index, IfOk};
+ghost use Rattle.std.specs.Prelude.{◌≡◌, ◌≢◌, ◌≤◌, ◌<◌, ℕ, IsTrue, false, length, option_map, slice_index, IfOk};
 ghost use Rattle.std.specs.List.{position_or_len};
 ghost use Rattle.unftp_control_message.specs.CommandMeaning.{command_of};
 ghost use Rattle.unftp_control_message.specs.SentValues.{sent_value};
 ghost use Rattle.unftp_control_defs.specs.Bytes.{Bytes};
 ghost use Rattle.unftp_control_defs.specs.Canonical.{HasLine};
 ghost use Rattle.unftp_control_defs.specs.Lines.{IsLine};
+ghost use Rattle.unftp_control_defs.specs.Paths.{path_of};
 ghost use Rattle.unftp_control_defs.specs.Said.{KindSaysBack};
 ghost use Rattle.unftp_control_defs.specs.Verbs.{is_separator, parameter_of, upper, verb_of};
 ghost use Rattle.unftp_control_defs.specs.Outcome.{value_outcome, outcome, parameter_outcome, site_outcome};
@@ -16,7 +17,7 @@ ghost use Rattle.unftp_control_codecs.specs.Memory.{MayTakeMemory, OnOutOfMemory
 ghost use Rattle.unftp_control_codecs.specs.ParseAnswer.{Returns};
 ghost use Rattle.unftp_control_codecs.specs.WordsMeaning.{AreWords, BeginsWith};
 
-use crate::line_parser::fields::{listing, optional_text, raw, text};
+use crate::line_parser::fields::{listing, optional_text, path_in, raw, text};
 use crate::line_parser::typed::typed;
 use crate::line_parser::value::parameter_value;
 use crate::line_parser::verb::is_same_word;
@@ -147,6 +148,28 @@ pub fn parts(line: &[u8]) -> result::Result<Parts<'_>, ParseErrorKind>
         name: words.name,
         value: value(words.kind, words.verb, words.parameter)?,
     })
+}
+
+/// The value of a line's parameter (RFC 959, section 5.3): the bytes that were sent, a CR NUL as one
+/// CR (RFC 854), without the line's end. It is `None` exactly where the parameter has an invalid
+/// line ending. The verb is not looked at, and no memory is taken.
+///
+/// The parameter of SITE is a subcommand and a parameter of that. For the value of the latter call
+/// it with the bytes of the line after SITE and the one byte that follows it.
+pub fn parameter(line: &[u8]) -> Option<Sent<'_>>
+    ensures { option_map sent_value result ≡ value_of (parameter_of line.now) }
+{
+    let (_, parameter) = split(line);
+    parameter_value(parameter)
+}
+
+/// The path of LIST or NLST: what comes in the value of the parameter after words that begin with a
+/// dash, options as those of `ls`, and after `--`. It is `None` exactly where `parameter` is. No
+/// memory is taken.
+pub fn list_path(line: &[u8]) -> Option<Sent<'_>>
+    ensures { option_map sent_value result ≡ option_map path_of (value_of (parameter_of line.now)) }
+{
+    Some(path_in(parameter(line)?))
 }
 
 /// What a line begins with, and the parameter after it.

@@ -10,7 +10,7 @@ use crate::line_parser::verb::is_same_word;
 use std::str::from_utf8;
 use unftp_control_message::parts::{Choice, Value, Verb};
 use unftp_control_message::reply::error::ParseErrorKind;
-use unftp_control_message::sent::{Sent, value_start};
+use unftp_control_message::sent::{Sent, unescape_to, unescaped_len};
 use unftp_control_message::{AuthParam, ModeParam, Opt, ProtParam, StruParam};
 
 type Typed<'a> = Result<Value<'a>, ParseErrorKind>;
@@ -132,8 +132,13 @@ fn auth<'a>(value: &[u8]) -> Typed<'a>
 fn auth_escaped<'a>(sent: &[u8]) -> Typed<'a>
     ensures { ReadsTo (auth (unescaped sent.now)) spec.Auth [] result }
 {
-    let (start, len) = value_start(sent);
-    auth(start.split_at(len).0)
+    let len = unescaped_len(sent);
+    if len > 3 {
+        return Err(ParseErrorKind::InvalidCommand);
+    }
+    let mut value = [0u8; 3];
+    unescape_to(sent, &mut value);
+    auth(value.split_at(len).0)
 }
 
 /// PBSZ and the size 0 (RFC 4217, section 9).

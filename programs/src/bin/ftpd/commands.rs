@@ -1,7 +1,7 @@
 //! The answers to commands.
 use crate::data::DataPort;
 use crate::folder::FilePath;
-use crate::line::{listed, named, with_nul};
+use crate::line::{list_path, parameter, with_nul};
 use crate::listing::{Fact, Form};
 use crate::record;
 use crate::replies;
@@ -70,9 +70,7 @@ impl Session {
         let answered = match self.admit(line).await {
             Some(answer) => return answer,
             None => match &line.event {
-                Event::Command(Command::Rnto { file }) => {
-                    self.rename_to(renamed, &named(file, line)).await
-                }
+                Event::Command(Command::Rnto { .. }) => self.rename_to(renamed, line).await,
                 Event::Command(command) => self.command(command, line).await,
                 Event::Refused(refusal) => self.refused(*refusal, line),
             },
@@ -155,14 +153,14 @@ impl Session {
             Command::Pbsz => self.pbsz(),
             Command::Prot { param } => self.prot(*param),
             Command::Ccc => refuse(Code::FTPS_REQUIRED, "The control connection stays under TLS"),
-            Command::Type => self.set_type(line.parameter()),
+            Command::Type => self.set_type(&parameter(line)?),
             Command::Mode { mode: ModeParam::Stream } => reply(Code::COMMAND_OKAY, "Mode S"),
             Command::Stru { structure: StruParam::File } => reply(Code::COMMAND_OKAY, "File"),
             Command::Mode { .. } | Command::Stru { .. } => {
                 refuse(Code::COMMAND_NOT_IMPLEMENTED_FOR_PARAMETER, "Only MODE S and STRU F")
             }
             Command::Pasv => self.passive(),
-            Command::Epsv => self.extended_passive(line.parameter()),
+            Command::Epsv => self.extended_passive(&parameter(line)?),
             Command::Port { addr } => self.port(addr),
             Command::Rest { offset } => self.restart(*offset),
             Command::Pwd => directory(&self.directory),
@@ -174,27 +172,23 @@ impl Session {
     /// The answer to a command that names a file or a directory.
     async fn file_command(&mut self, command: &Command<'_>, line: &OwnedLine) -> Answered {
         match command {
-            Command::Cwd { path } => self.change_directory(&named(path, line)).await,
-            Command::Retr { path } => self.retrieve(&named(path, line)).await,
-            Command::Stor { path } => self.store(&named(path, line)).await,
-            Command::Appe { path } => self.append(&named(path, line)).await,
+            Command::Cwd { .. } => self.change_directory(&parameter(line)?).await,
+            Command::Retr { .. } => self.retrieve(&parameter(line)?).await,
+            Command::Stor { .. } => self.store(&parameter(line)?).await,
+            Command::Appe { .. } => self.append(&parameter(line)?).await,
             Command::Stou => self.store_unique().await,
-            Command::List { .. } => self.list(&listed(line), Form::Long).await,
-            Command::Nlst { .. } => self.list(&listed(line), Form::Name).await,
-            Command::Mlsd { path } => {
-                let directory = path.as_deref().map_or_else(Vec::new, |path| named(path, line));
-                self.list(&directory, Form::Facts(self.facts.clone())).await
+            Command::List { .. } => self.list(&list_path(line)?, Form::Long).await,
+            Command::Nlst { .. } => self.list(&list_path(line)?, Form::Name).await,
+            Command::Mlsd { .. } => {
+                self.list(&parameter(line)?, Form::Facts(self.facts.clone())).await
             }
-            Command::Mlst { path } => {
-                let path = path.as_deref().map_or_else(Vec::new, |path| named(path, line));
-                self.show_facts(&path).await
-            }
-            Command::Size { file } => self.size(&named(file, line)).await,
-            Command::Mdtm { file } => self.modified(&named(file, line)).await,
-            Command::Dele { path } => self.delete(&named(path, line)).await,
-            Command::Rmd { path } => self.remove_directory(&named(path, line)).await,
-            Command::Mkd { path } => self.make_directory(&named(path, line)).await,
-            Command::Rnfr { file } => self.rename_from(&named(file, line)).await,
+            Command::Mlst { .. } => self.show_facts(&parameter(line)?).await,
+            Command::Size { .. } => self.size(&parameter(line)?).await,
+            Command::Mdtm { .. } => self.modified(&parameter(line)?).await,
+            Command::Dele { .. } => self.delete(&parameter(line)?).await,
+            Command::Rmd { .. } => self.remove_directory(&parameter(line)?).await,
+            Command::Mkd { .. } => self.make_directory(&parameter(line)?).await,
+            Command::Rnfr { .. } => self.rename_from(&parameter(line)?).await,
             Command::Site { command, .. } if command == "CHMOD" => self.set_mode(line).await,
             Command::Site { command, .. } if command == "HELP" => {
                 reply(Code::HELP_MESSAGE, "SITE CHMOD MODE PATH, SITE HELP")
@@ -216,7 +210,7 @@ impl Session {
             "MFMT" => self.set_modified(line).await,
             "REIN" if words.is_empty() => self.reinitialize(),
             "XCUP" => self.change_directory(b"..").await,
-            "XRMD" if !words.is_empty() => self.remove_directory(&named(words, line)).await,
+            "XRMD" if !words.is_empty() => self.remove_directory(&parameter(line)?).await,
             _ => refuse(Code::COMMAND_SYNTAX_ERROR, "Unknown command"),
         }
     }

@@ -2,7 +2,7 @@
 use crate::commands::{directory, refuse, reply, Answer, Answered};
 use crate::data::DataPort;
 use crate::folder::{is_type, FilePath, Folder, New};
-use crate::line::{first_word, with_nul};
+use crate::line::{first_word, parameter, subcommand_parameter, with_nul};
 use crate::listing::{fact_list, parsed_time, time_value, Form, Listing};
 use crate::replies;
 use crate::representation::Representation;
@@ -241,26 +241,27 @@ impl Session {
 
     /// MFMT: a time and a file or a directory.
     pub async fn set_modified(&mut self, line: &OwnedLine) -> Answered {
-        let (time, named) = first_word(line.parameter());
+        let words = parameter(line)?;
+        let (time, named) = first_word(&words);
         let time = std::str::from_utf8(time).ok().and_then(parsed_time);
         let Some(modified) = time.filter(|_| !named.is_empty()) else {
             return refuse(Code::PARAMETER_SYNTAX_ERROR, "No time, or no file");
         };
         let seconds = modified.assume_utc().unix_timestamp();
-        let facts = self.change(&named, move |folder, path| folder.set_modified(path, seconds));
+        let facts = self.change(named, move |folder, path| folder.set_modified(path, seconds));
         let time = time_value(&facts.await?).unwrap_or_default();
-        let text = [b"Modify=", time.as_bytes(), b"; ", &with_nul(&named)].concat();
+        let text = [b"Modify=", time.as_bytes(), b"; ", &with_nul(named)].concat();
         Ok(Answer::Reply(Reply::of_bytes(Code::FILE_STATUS, text)))
     }
 
     /// SITE CHMOD: a mode in octal digits and a file or a directory.
     pub async fn set_mode(&mut self, line: &OwnedLine) -> Answered {
-        let (_, words) = first_word(line.parameter());
+        let words = subcommand_parameter(line)?;
         let (mode, named) = first_word(&words);
         let Some(mode) = parsed_mode(mode).filter(|_| !named.is_empty()) else {
             return refuse(Code::PARAMETER_SYNTAX_ERROR, "No mode, or no file");
         };
-        self.change(&named, move |folder, path| folder.set_mode(path, mode)).await?;
+        self.change(named, move |folder, path| folder.set_mode(path, mode)).await?;
         reply(Code::COMMAND_OKAY, "OK")
     }
 
@@ -286,11 +287,11 @@ impl Session {
         reply(Code::FILE_ACTION_PENDING, "RNTO has the new name")
     }
 
-    pub async fn rename_to(&mut self, renamed: Option<FilePath>, named: &[u8]) -> Answered {
+    pub async fn rename_to(&mut self, renamed: Option<FilePath>, line: &OwnedLine) -> Answered {
         let Some(from) = renamed else {
             return refuse(Code::BAD_COMMAND_SEQUENCE, "RNFR comes first");
         };
-        self.change(named, move |folder, to| folder.rename(&from, to)).await?;
+        self.change(&parameter(line)?, move |folder, to| folder.rename(&from, to)).await?;
         reply(Code::FILE_ACTION_OKAY, "Renamed")
     }
 }

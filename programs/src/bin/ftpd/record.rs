@@ -2,7 +2,7 @@
 //! names and paths as values, in which the log escapes what would end or change its line. They have
 //! no password.
 use crate::folder::FilePath;
-use crate::line::{first_word, listed, named};
+use crate::line::{first_word, list_path, parameter, subcommand_parameter};
 use crate::session::Session;
 use std::borrow::Cow;
 use std::time::Instant;
@@ -48,12 +48,12 @@ impl Action {
     pub fn of(line: &OwnedLine, session: &Session) -> Option<Action> {
         session.login.name()?;
         let Event::Command(command) = &line.event else { return None };
-        let transfer = transferred(command, line);
-        let (verb, named) = transfer.clone().or_else(|| changed(command, line))?;
+        let transfer = transferred(command);
+        let verb = transfer.or_else(|| changed(command))?;
         Some(Action {
             is_transfer: transfer.is_some(),
             verb,
-            path: session.directory.join(&named),
+            path: session.directory.join(&named(verb, line).ok()?),
             from: session.renamed.clone().filter(|_| verb == "RNTO"),
             begun: Instant::now(),
         })
@@ -83,40 +83,42 @@ impl Action {
     }
 }
 
-/// The verb of a transfer, and what it names.
-fn transferred(command: &Command<'_>, line: &OwnedLine) -> Option<(&'static str, Vec<u8>)> {
+/// The verb of a transfer.
+fn transferred(command: &Command<'_>) -> Option<&'static str> {
     Some(match command {
-        Command::Retr { path } => ("RETR", named(path, line)),
-        Command::Stor { path } => ("STOR", named(path, line)),
-        Command::Appe { path } => ("APPE", named(path, line)),
-        Command::Stou => ("STOU", Vec::new()),
-        Command::List { .. } => ("LIST", listed(line)),
-        Command::Nlst { .. } => ("NLST", listed(line)),
-        Command::Mlsd { path } => {
-            ("MLSD", path.as_deref().map_or_else(Vec::new, |it| named(it, line)))
-        }
+        Command::Retr { .. } => "RETR",
+        Command::Stor { .. } => "STOR",
+        Command::Appe { .. } => "APPE",
+        Command::Stou => "STOU",
+        Command::List { .. } => "LIST",
+        Command::Nlst { .. } => "NLST",
+        Command::Mlsd { .. } => "MLSD",
         _ => return None,
     })
 }
 
-/// The verb of a change, and what it names.
-fn changed(command: &Command<'_>, line: &OwnedLine) -> Option<(&'static str, Vec<u8>)> {
+/// The verb of a change.
+fn changed(command: &Command<'_>) -> Option<&'static str> {
     Some(match command {
-        Command::Dele { path } => ("DELE", named(path, line)),
-        Command::Rmd { path } => ("RMD", named(path, line)),
-        Command::Mkd { path } => ("MKD", named(path, line)),
-        Command::Rnto { file } => ("RNTO", named(file, line)),
-        Command::Site { command, .. } if command == "CHMOD" => {
-            ("CHMOD", first_word(&first_word(line.parameter()).1).1)
-        }
-        Command::Other { command_name, .. } if command_name == "MFMT" => {
-            ("MFMT", first_word(line.parameter()).1)
-        }
-        Command::Other { command_name, arguments } if command_name == "XRMD" => {
-            ("RMD", named(arguments, line))
-        }
+        Command::Dele { .. } => "DELE",
+        Command::Rmd { .. } => "RMD",
+        Command::Mkd { .. } => "MKD",
+        Command::Rnto { .. } => "RNTO",
+        Command::Site { command, .. } if command == "CHMOD" => "CHMOD",
+        Command::Other { command_name, .. } if command_name == "MFMT" => "MFMT",
+        Command::Other { command_name, .. } if command_name == "XRMD" => "RMD",
         _ => return None,
     })
+}
+
+/// What a line of this verb names.
+fn named(verb: &str, line: &OwnedLine) -> Result<Vec<u8>, Reply> {
+    match verb {
+        "LIST" | "NLST" => list_path(line),
+        "CHMOD" => Ok(first_word(&subcommand_parameter(line)?).1.to_vec()),
+        "MFMT" => Ok(first_word(&parameter(line)?).1.to_vec()),
+        _ => parameter(line),
+    }
 }
 
 /// Logs a login.

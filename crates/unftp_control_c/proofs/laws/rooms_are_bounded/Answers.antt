@@ -8,6 +8,7 @@ use Rattle.unftp_control_c.specs.Next.{Call, Left, given_for}
 use Rattle.unftp_control_c.specs.Numbers.{status_number}
 use Rattle.unftp_control_c.proofs.CallLemmas.{FirstEvent, NextLeft, gave, no_room, gives_some, left_so}
 use Rattle.unftp_control_c.proofs.FoundRoomLemmas.{found_room}
+use Rattle.unftp_control_c.proofs.ParameterRoomLemmas.{parameter_room}
 use Rattle.unftp_control_c.proofs.RoomLemmas.{lengths}
 use Rattle.unftp_control_c.proofs.ReplyRoomLemmas.{quoted_room, reply_room}
 use Rattle.unftp_control_c.proofs.laws.rooms_are_bounded.Goals as goal
@@ -45,4 +46,5 @@ returns c = record {
   reply = λ code text out. (reply_room code text out).0;
   quoted = quoted_room;
   lines = found_room;
+  parameter = parameter_room;
 }
