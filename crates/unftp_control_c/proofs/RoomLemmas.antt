@@ -59,7 +59,7 @@ later_length ends_lf = omega arith
 later_length (cr_nul h) = omega (arith, later_length h)
 later_length (byte no_cr may h) = omega (arith, later_length h)
 
-reads_length : {parameter v : Bytes} → Reads parameter v → length v ≤ length parameter
+pub reads_length : {parameter v : Bytes} → Reads parameter v → length v ≤ length parameter
 reads_length nothing = omega arith
 reads_length ended = omega arith
 reads_length ended_crlf = omega arith
