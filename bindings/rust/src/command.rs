@@ -394,17 +394,33 @@ impl Command<'_> {
 
     /// The line that it has, if it has one.
     fn composed(&self) -> Vec<u8> {
+        let value = match self {
+            Command::Type => Some(Cow::Borrowed(&b"I"[..])),
+            Command::Allo => Some(Cow::Borrowed(&b"0"[..])),
+            Command::List { path: Some(path), .. } if path.starts_with('-') => {
+                Some(Cow::Owned(format!("-- {path}").into_bytes()))
+            }
+            command => command.value(),
+        };
+        self.line_with(value)
+    }
+
+    /// The value that it holds.
+    fn value(&self) -> Option<Cow<'_, [u8]>> {
+        match self {
+            Command::Pbsz => Some(Cow::Borrowed(&b"0"[..])),
+            command => for_each_command!(value!(command)),
+        }
+    }
+
+    /// The line of its verb and this value.
+    fn line_with(&self, value: Option<Cow<'_, [u8]>>) -> Vec<u8> {
         let words: [&[u8]; 2] = match self {
             Command::Md5 { .. } => [b"SITE", b"MD5"],
             Command::Site { command, .. } => [b"SITE", command.as_bytes()],
             command => [command.verb().as_bytes(), b""],
         };
         let mut line = words[0].to_vec();
-        let value = match self {
-            Command::Type => Some(Cow::Borrowed(&b"I"[..])),
-            Command::Allo | Command::Pbsz => Some(Cow::Borrowed(&b"0"[..])),
-            command => for_each_command!(value!(command)),
-        };
         let value = value.filter(|value| !value.is_empty());
         if !words[1].is_empty() || (words[0] == b"SITE" && value.is_some()) {
             line.push(b' ');
@@ -412,9 +428,6 @@ impl Command<'_> {
         }
         if let Some(value) = value {
             line.push(b' ');
-            if matches!(self, Command::List { .. }) && value.first() == Some(&b'-') {
-                line.extend_from_slice(b"-- ");
-            }
             for byte in value.iter() {
                 line.push(*byte);
                 if *byte == b'\r' {
@@ -427,11 +440,13 @@ impl Command<'_> {
     }
 }
 
-/// What a log shows of it, as [`log_line`](crate::log_line): no password and no account. Of one that
-/// no line gives, only the verb.
+/// What a log shows of a line with the value that the command holds: no password and no account. It
+/// lacks what only the line has, which [`log_line`](crate::log_line) shows: it is `TYPE` where the
+/// log line is `TYPE A`. Of a command that no line gives, only the verb.
 impl Display for Command<'_> {
     fn fmt(&self, f: &mut Formatter<'_>) -> fmt::Result {
-        let line = self.to_line().or_else(|error| match (error, self) {
+        let read_back = self.to_line().map(|_| self.line_with(self.value()));
+        let line = read_back.or_else(|error| match (error, self) {
             (Error::NoLine, Command::Other { .. }) => Ok(b"\r\n".to_vec()),
             (Error::NoLine, command) => Ok(format!("{}\r\n", command.verb()).into_bytes()),
             (error, _) => Err(error),
