@@ -14,7 +14,8 @@ use crate::ffi;
 /// | `type a`, `EPSV ALL`, `LIST -la x` | `TYPE a`, `EPSV ALL`, `LIST -la x` |
 /// | `RETR a` and a byte 0xe9 | `RETR a\xe9` |
 /// | `REST +5`, `auth tls` | `REST 5`, `AUTH TLS` |
-/// | `site chmod 644 a`, `SITE PSWD old new`, `SITE secret` | `SITE CHMOD 644 a`, `SITE PSWD ***`, `SITE ***` |
+/// | `site chmod 644 a` | `SITE CHMOD 644 a` |
+/// | `SITE PSWD old new`, `SITE secret` | `SITE PSWD ***`, `SITE ***` |
 /// | `PASS secret`, `PASS`, `lang` | `PASS ***`, `PASS ***`, `LANG ***` |
 /// | `PSAS secret`, `hunter2` | `***` |
 /// | `NOOP x` | `refused NOOP: Invalid command` |
