@@ -481,14 +481,26 @@ uint32_t unftp_is_clear(const char *line, size_t line_len) UNFTP_NONNULL;
  * how many bytes it has. Each byte is printable ASCII. The number is what unftp_next returned, and
  * the line is what it used up; at UNFTP_LINE_TOO_LONG nothing of the line is looked at.
  *
- * A command is its verb in upper case and its value after a space, with what is not printable
- * escaped as in Rust: \t, \r, \n, \', \", \\, or \x and two digits. The value of PASS and ACCT is
- * ***, also an empty one. A verb with no rule of its own may be a mistyped PASS, or a password: it
- * is *** unless it is a word of the registry of FTP's commands (RFC 5797, section 3), whose
- * arguments are ***. Of SITE the subcommands CHMOD, IDLE, MD5, UMASK and UTIME are shown with their
- * arguments, EXEC, GPASS, GROUP, HELP and PSWD without, and any other is ***. What is shown is the
- * command and not the line: of `xcwd a` CWD a, and of `type a` TYPE. The name of USER and paths are
- * shown, and so is a password that a client sends in their place, or one that is itself a verb.
+ *     the line                                    what is written
+ *     xcwd a, BYE                                 CWD a, QUIT
+ *     type a, EPSV ALL, LIST -la x                TYPE a, EPSV ALL, LIST -la x
+ *     RETR a\xe9                                  RETR a\xe9
+ *     REST +5, auth tls                           REST 5, AUTH TLS
+ *     site chmod 644 a, SITE PSWD a b, SITE a     SITE CHMOD 644 a, SITE PSWD ***, SITE ***
+ *     PASS secret, PASS, lang                     PASS ***, PASS ***, LANG ***
+ *     PSAS secret, hunter2                        ***, ***
+ *     NOOP x                                      refused NOOP: Invalid command
+ *
+ * A command is its canonical verb, and after a space the value of the line's parameter as the bytes
+ * that were sent, with what is not printable escaped as in Rust: \t, \r, \n, \', \", \\, or \x and
+ * two digits; CR NUL is one CR. STRU, MODE, PROT, AUTH, OPTS, PBSZ and REST have the value that
+ * unftp_next gives, and SYST and HELP none. The value of PASS and ACCT is ***, also an empty one. A
+ * verb with no rule of its own may be a mistyped PASS, or a password: it is ***. A word of the
+ * registry of FTP's commands (RFC 5797, section 3), ALGS (RFC 6384) and HOST (RFC 7151) are shown,
+ * with *** for their arguments, also where there are none. Of SITE the subcommands CHMOD, IDLE, MD5,
+ * UMASK and UTIME are shown with their arguments, EXEC, GPASS, GROUP, HELP and PSWD with ***, and
+ * any other is ***. The name of USER and paths are shown, and so is a password that a client sends
+ * in their place, or one that is itself a verb.
  *
  * A refused line is `refused`, a space and its verb where that has a rule here or is such a word,
  * `: `, and why; nothing is shown of its parameter. Why is one of `Invalid command`, `Non-UTF8
@@ -497,9 +509,10 @@ uint32_t unftp_is_clear(const char *line, size_t line_len) UNFTP_NONNULL;
  * the number says nothing more.
  *
  * It returns UNFTP_DONE; UNFTP_NO_ROOM, where *len is the room that is needed; or
- * UNFTP_OUT_OF_MEMORY. out is as it was but at UNFTP_DONE. A line of n bytes needs at most 12 n +
- * 42. A server that has no such room must not drop the line, or a client could keep itself out of
- * the log: it takes the room that *len asks for, or logs that there was a line.
+ * UNFTP_OUT_OF_MEMORY. out is as it was but at UNFTP_DONE. A line of n bytes needs at most 4 n +
+ * 42. Memory is taken only for the text that is written, and not for a command. A server that has no
+ * such room must not drop the line, or a client could keep itself out of the log: it takes the room
+ * that *len asks for, or logs that there was a line.
  */
 enum unftp_result unftp_log_line(uint32_t number, const char *line, size_t line_len,
                                  char *out, size_t out_room, size_t *len) UNFTP_NONNULL;

@@ -49,8 +49,8 @@ enum {
     /* what is sent for a line may end by CR LF and not by LF, and BYE is QUIT */
     FORWARDED_MOST = LINE_LIMIT + 2,
 
-    /* a log has at most four bytes for one of the area, or says why a line is refused */
-    LOG_ROOM = 4 * AREA_ROOM + 64,
+    /* a log has at most four bytes for one of a line, or says why that is refused */
+    LOG_ROOM = 4 * LINE_LIMIT + 64,
 
     /* the longest reply that is passed on */
     BUFFER_ROOM = 65536,

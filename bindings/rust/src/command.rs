@@ -390,15 +390,31 @@ impl Command<'_> {
 
     /// The line that it has, if it has one.
     fn composed(&self) -> Vec<u8> {
+        let value = match self {
+            Command::Type => Some(Cow::Borrowed(&b"I"[..])),
+            Command::Allo => Some(Cow::Borrowed(&b"0"[..])),
+            Command::List { path: Some(path), .. } if path.starts_with('-') => {
+                Some(Cow::Owned(format!("-- {path}").into_bytes()))
+            }
+            command => command.value(),
+        };
+        self.line_with(value)
+    }
+
+    /// The value that it holds.
+    fn value(&self) -> Option<Cow<'_, [u8]>> {
+        match self {
+            Command::Pbsz => Some(Cow::Borrowed(&b"0"[..])),
+            command => for_each_command!(value!(command)),
+        }
+    }
+
+    /// The line of its verb and this value.
+    fn line_with(&self, value: Option<Cow<'_, [u8]>>) -> Vec<u8> {
         let words: [&[u8]; 2] = match self {
             Command::Md5 { .. } => [b"SITE", b"MD5"],
             Command::Site { command, .. } => [b"SITE", command.as_bytes()],
             command => [command.verb().as_bytes(), b""],
-        };
-        let value = match self {
-            Command::Type => Some(Cow::Borrowed(&b"I"[..])),
-            Command::Allo | Command::Pbsz => Some(Cow::Borrowed(&b"0"[..])),
-            command => for_each_command!(value!(command)),
         };
         let value = value.filter(|value| !value.is_empty());
         let value_len = value.as_ref().map_or(0, |value| value.len());
@@ -410,9 +426,6 @@ impl Command<'_> {
         }
         if let Some(value) = value {
             line.push(b' ');
-            if matches!(self, Command::List { .. }) && value.first() == Some(&b'-') {
-                line.extend_from_slice(b"-- ");
-            }
             for part in value.split_inclusive(|byte| *byte == b'\r') {
                 line.extend_from_slice(part);
                 if part.ends_with(b"\r") {
@@ -425,12 +438,15 @@ impl Command<'_> {
     }
 }
 
-/// What a log shows of it, as [`log_line`](crate::log_line): no password and no account. Of a command
-/// that no line gives, only the verb, and `***` of one that is `Other`.
+/// What a log shows of a line with the value that the command holds: no password and no account. It
+/// lacks what only the line has, which [`log_line`](crate::log_line) shows: it is `TYPE` where the
+/// log line is `TYPE A`. Of a command that no line gives, only the verb, and `***` of one that is
+/// `Other`.
 impl Display for Command<'_> {
     fn fmt(&self, f: &mut Formatter<'_>) -> fmt::Result {
         match (self.to_line(), self) {
-            (Ok(line), _) => {
+            (Ok(_), _) => {
+                let line = self.line_with(self.value());
                 f.write_str(&log::shown(self.number(), &line).map_err(|_| fmt::Error)?)
             }
             (Err(Error::NoLine), Command::Other { .. }) => f.write_str("***"),

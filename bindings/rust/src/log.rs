@@ -8,24 +8,43 @@ use crate::ffi;
 /// [`Pending::next_line`](crate::Pending::next_line) returned together, and [`Line::log_line`]
 /// takes both. Where the line is too long, nothing of it is looked at.
 ///
-/// A command is its verb in upper case and its value after a space, with what is not printable
-/// escaped. The value of PASS and ACCT is `***`, also an empty one. A verb with no rule of its own
-/// may be a mistyped PASS, or a password: it is `***` unless it is a word of the registry of FTP's
-/// commands (RFC 5797, section 3), whose arguments are `***`. So it is with the subcommands of SITE
-/// but CHMOD, IDLE, MD5, UMASK and UTIME. A refused line is `refused`, its verb where that is such
-/// a word, and why; nothing is shown of its parameter. The name of USER and paths are shown, and so
-/// is a password that a client sends in their place, or one that is itself a verb.
+/// | a line | its log line |
+/// |---|---|
+/// | `xcwd a`, `BYE` | `CWD a`, `QUIT` |
+/// | `type a`, `EPSV ALL`, `LIST -la x` | `TYPE a`, `EPSV ALL`, `LIST -la x` |
+/// | `RETR a` and a byte 0xe9 | `RETR a\xe9` |
+/// | `REST +5`, `auth tls` | `REST 5`, `AUTH TLS` |
+/// | `site chmod 644 a` | `SITE CHMOD 644 a` |
+/// | `SITE PSWD old new`, `SITE secret` | `SITE PSWD ***`, `SITE ***` |
+/// | `PASS secret`, `PASS`, `lang` | `PASS ***`, `PASS ***`, `LANG ***` |
+/// | `PSAS secret`, `hunter2` | `***` |
+/// | `NOOP x` | `refused NOOP: Invalid command` |
+///
+/// A command is its canonical verb, and after a space the value of the line's parameter as the bytes
+/// that were sent, with what is not printable escaped; CR NUL is one CR. STRU, MODE, PROT, AUTH,
+/// OPTS, PBSZ and REST have the value of their command, and SYST and HELP none. The value of PASS
+/// and ACCT is `***`, also an empty one.
+///
+/// A verb with no rule of its own may be a mistyped PASS, or a password: it is `***`. A word of the
+/// registry of FTP's commands (RFC 5797, section 3), ALGS (RFC 6384) and HOST (RFC 7151) are shown,
+/// with `***` for their arguments, also where there are none. So it is with the subcommands of SITE,
+/// but that CHMOD, IDLE, MD5, UMASK and UTIME show their arguments. The name of USER and paths are
+/// shown, and so is a password that a client sends in their place, or one that is itself a verb.
+///
+/// A refused line is `refused`, its verb where that has a rule or is such a word, and why:
+/// `Invalid command`, `Non-UTF8 character while parsing`, `Invalid end-of-line`, or without a verb
+/// `Line too long`. Nothing is shown of its parameter.
 ///
 /// ```
 /// use unftp_control::{log_line, Pending};
 ///
 /// let mut pending = Pending::new();
-/// pending.push(b"PASS secret\r\nPSAS secret\r\nretr a\tb\r\nNOOP x\r\n")?;
+/// pending.push(b"PASS secret\r\nPSAS secret\r\ntype a\r\nNOOP x\r\n")?;
 /// let mut log = Vec::new();
 /// while let Some(line) = pending.next_line()? {
 ///     log.push(log_line(&line.event, line.bytes)?);
 /// }
-/// assert_eq!(log, ["PASS ***", "***", "RETR a\\tb", "refused NOOP: Invalid command"]);
+/// assert_eq!(log, ["PASS ***", "***", "TYPE a", "refused NOOP: Invalid command"]);
 /// # Ok::<(), unftp_control::Error>(())
 /// ```
 ///

@@ -140,9 +140,9 @@ pub fn rooms_are_bounded()
 
 /// So much room the lines of a log need at most.
 pub fn log_rooms_are_bounded()
-    // A log line has at most 12 bytes for each byte of the line, and 42.
+    // A log line has at most 4 bytes for each byte of the line, and 42.
     ensures log_line { (number : ℕ) (line : Bytes) (bytes : Made) (out : Bytes)
-        → IsLogLine number line bytes → (written bytes out).text_length ≤ 12 * length line + 42 }
+        → IsLogLine number line bytes → (written bytes out).text_length ≤ 4 * length line + 42 }
     // The line of an exchange has at most the bytes of what is shown of the line, 4 bytes for each
     // byte of the replies, and 3.
     ensures exchange { (shown replies : Bytes) (bytes : Made) (out : Bytes)

@@ -1,19 +1,13 @@
 //! The line of a log for a line of a client.
-ghost use Rattle.std.specs.Prelude.{◌≡◌, IfErr, IfOk};
-ghost use Rattle.unftp_control_defs.specs.Events.{event_of};
-ghost use Rattle.unftp_control_defs.specs.Outcome.{outcome};
-ghost use Rattle.unftp_control_log.specs.LogLine.{log_line};
-ghost use Rattle.unftp_control_serve.specs.EventMeaning.{event_meant};
+ghost use Rattle.std.specs.Prelude.{◌≡◌, ◌++◌, OnOk};
 ghost use Rattle.unftp_control_c.specs.Areas.{Made, made, written};
-ghost use Rattle.unftp_control_c.specs.LogLines.{IsLogLine};
-ghost use Rattle.unftp_control_c.specs.declared.status.Status.TheVariants.{OutOfMemory};
+ghost use Rattle.unftp_control_c.specs.LogLines.{IsLogLine, numbered_log_line};
 
 use crate::areas::write;
 use crate::status::Status;
-use std::alloc::Global;
-use unftp_control_codecs::line_parser::parse;
-use unftp_control_log::write_log_line;
-use unftp_control_message::reply::error::{ControlChanErrorKind, ParseErrorKind};
+use std::alloc::{AllocError, Global};
+use unftp_control_log::{write_log_line, write_log_of};
+use unftp_control_message::reply::error::ControlChanErrorKind;
 use unftp_control_serve::Event;
 
 /// The line of a log for a line of a client: `unftp_log_line` of include/unftp_control.h.
@@ -32,42 +26,24 @@ pub extern "C" fn unftp_log_line(
     write(log_line(alloc, number, line), out, len)
 }
 
-/// The line of the log, or why there is none.
+/// The line of the log. It takes memory for that alone, and not for a command.
 fn log_line(alloc: Global, number: u32, line: &[u8]) -> Result<Vec<u8>, Status>
     ensures { IsLogLine number line.now (made result) }
 {
-    if number == Status::LineTooLong.number() {
-        let event = Event::Refused(ControlChanErrorKind::LineTooLong.into());
-        return event_line(alloc, &event, &[]);
-    }
-    let event = event_in(alloc, line)?;
-    event_line(alloc, &event, line)
-}
-
-/// The event of a line.
-fn event_in(alloc: Global, line: &[u8]) -> Result<Event, Status>
-    ensures ok { IfOk result (λ event. event_meant event ≡ event_of (outcome line.now)) }
-    ensures err { IfErr result (λ status. status ≡ OutOfMemory) }
-{
-    match parse(alloc, line) {
-        Ok(command) => Ok(Event::Command(command)),
-        Err(refused) => {
-            if matches!(refused.kind(), ParseErrorKind::OutOfMemory) {
-                return Err(Status::OutOfMemory);
-            }
-            Ok(Event::Refused(refused.into()))
-        }
-    }
-}
-
-/// What a log shows of an event.
-fn event_line(alloc: Global, event: &Event, line: &[u8]) -> Result<Vec<u8>, Status>
-    ensures ok { IfOk result (λ buf. buf.items ≡ log_line (event_meant event.now) line.now) }
-    ensures err { IfErr result (λ status. status ≡ OutOfMemory) }
-{
     let mut buf = Vec::new(alloc);
-    match write_log_line(event, line, &mut buf) {
+    match append_log_line(number, line, &mut buf) {
         Ok(()) => Ok(buf),
         Err(_) => Err(Status::OutOfMemory),
     }
+}
+
+/// Appends the line of the log.
+fn append_log_line(number: u32, line: &[u8], buf: &mut Vec<u8>) -> Result<(), AllocError>
+    ensures { OnOk result (buf.new.items ≡ buf.old.items ++ numbered_log_line number line.now) }
+{
+    if number == Status::LineTooLong.number() {
+        let event = Event::Refused(ControlChanErrorKind::LineTooLong.into());
+        return write_log_line(&event, &[], buf);
+    }
+    write_log_of(line, buf)
 }

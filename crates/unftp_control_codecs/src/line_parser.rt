@@ -12,4 +12,5 @@ pub use unftp_control_defs::verb::is_verb;
 pub use unftp_control_message::reply::error::{
     ParseError, ParseErrorKind, Result, same_parse_errors,
 };
+pub use value::parameter_value;
 pub use verb::{keeps_parameter, kind_keeps};

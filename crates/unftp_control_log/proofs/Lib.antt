@@ -1,5 +1,7 @@
 pub mod ShownTextLemmas
+pub mod UnescapedLemmas
 pub mod PrintableLemmas
+pub mod PartsLemmas
 pub mod HiddenLemmas
 pub mod CutLemmas
 pub mod SentLemmas

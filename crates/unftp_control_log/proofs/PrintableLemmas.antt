@@ -10,12 +10,14 @@ use Rattle.std.proofs.lemmas.List.Folds.{list_any-append}
 use Rattle.unftp_control_defs.specs.Bytes.{Bytes}
 use Rattle.unftp_control_defs.specs.Events as fault
 use Rattle.unftp_control_defs.specs.Events.{FaultKind, FaultSource, FtpEvent, Command, Refused, Parse, NoSource, Utf8, Io}
-use Rattle.unftp_control_defs.specs.FtpCommand.{FtpCommand, Site, Other, InvalidCommand, InvalidUtf8, InvalidEol, verbs}
+use Rattle.unftp_control_defs.specs.FtpCommand.{InvalidCommand, InvalidUtf8, InvalidEol, Said, said, verbs, word}
 use Rattle.unftp_control_defs.specs.Rules.{row_of}
 use Rattle.unftp_control_defs.specs.Texts.{kind_reason, reading_text}
 use Rattle.unftp_control_defs.specs.Verbs.{upper, verb_of}
+use Rattle.unftp_control_defs.specs.declared.verb.Verb.{Verb as Ruled}
+use Rattle.unftp_control_defs.specs.declared.verb.Verb.TheVariants as verbs_of
 use lib.Pointwise.{bytes_decides}
-use Rattle.unftp_control_log.specs.LogLine.{IsPrintable, RefusedLine, Subcommand, Verb, Visible, further_verbs, is_listed, listed_verb, log_line, reason, shown, site_words, visible_command, visible_other, visible_site, visible_text}
+use Rattle.unftp_control_log.specs.LogLine.{IsPrintable, RefusedLine, Subcommand, Verb, Visible, asterisks, further_verbs, is_listed, listed_verb, log_line, reason, shown, shown_value, shows_arguments, site_words, visible_other, visible_said, visible_site, visible_text, visible_value, visible_verb}
 use Rattle.unftp_control_write.specs.Lines.{spaced_part}
 
 abbrev pub ArePrintable : Bytes → Type 0
@@ -78,7 +80,7 @@ shown_part_prints : (value : Option Bytes) → IfSome (option_map shown value) A
 shown_part_prints None = tt
 shown_part_prints (Some text) = shown_prints text
 
--- a listed verb
+-- a listed word
 words_print : (verb : Bytes) (words : List Bytes) → list_all all_printable words ≡ true
     → list_any (bytes_eq verb) words ≡ true → ArePrintable verb
 words_print verb [] all is = absurd (cc)
@@ -103,15 +105,21 @@ is_some-row_of name (row ∷ rows) = by_test (bytes_eq name row.0) (is_some-row_
   by_test true same = refl
   by_test false same = same
 
-verb_prints : (line : Bytes) → IfSome (listed_verb line) ArePrintable
-verb_prints line =
-    let verb : Bytes = upper (verb_of line) in
+listed_prints : (verb : Bytes) → is_listed verb ≡ true → ArePrintable (upper verb)
+listed_prints verb is =
     let names : List Bytes = map (λ row. row.0) verbs in
-    cond_both (is_listed verb) (Some verb) None (λ verb. IfSome verb ArePrintable)
-    (λ is. words_print verb (names ++ further_verbs) refl
-    (list_any-append (bytes_eq verb) names further_verbs
-    ∙ ap (λ ruled. ruled || list_any (bytes_eq verb) further_verbs)
-    (sym (is_some-row_of verb verbs)) ∙ is)) (λ _. tt)
+    words_print (upper verb) (names ++ further_verbs) refl
+    (list_any-append (bytes_eq (upper verb)) names further_verbs
+    ∙ ap (λ ruled. ruled || list_any (bytes_eq (upper verb)) further_verbs)
+    (sym (is_some-row_of (upper verb) verbs)) ∙ is)
+
+subcommand_prints : (name : Bytes) → is_some (row_of name site_words) ≡ true → ArePrintable name
+subcommand_prints name is = words_print name (map (λ row. row.0) site_words) refl
+    (sym (is_some-row_of name site_words) ∙ is)
+
+verb_prints : (line : Bytes) → IfSome (listed_verb line) ArePrintable
+verb_prints line = cond_both (is_listed (verb_of line)) (Some (upper (verb_of line))) None
+    (λ verb. IfSome verb ArePrintable) (listed_prints (verb_of line)) (λ _. tt)
 
 -- a reason
 kind_prints : (kind : FaultKind) → ArePrintable (kind_reason kind)
@@ -127,17 +135,16 @@ reason_prints NoSource kind = kind_prints kind
 reason_prints Utf8 kind = kind_prints kind
 reason_prints Io kind = kind_prints kind
 
--- what is shown prints: a text as its escapes, and all else as it is
+-- what is shown prints: a value as its escapes, and all else as it is
 abbrev IsWritten : Visible → Type 0
+IsWritten (Verb verb value) = ArePrintable verb
+IsWritten (Subcommand name arguments) = ArePrintable name
 IsWritten (RefusedLine verb why) = IfSome verb ArePrintable × ArePrintable why
-IsWritten _ = Unit {0}
 
 text_prints : (visible : Visible) → IsWritten visible → ArePrintable (visible_text visible)
-text_prints (Verb verb value) h =
-    joined (shown verb) _ (shown_prints verb) (spaced_prints _ (shown_part_prints value))
-text_prints (Subcommand name arguments) h = joined (codes "SITE " ++ shown name) _
-    (joined (codes "SITE ") _ (written (codes "SITE ") refl) (shown_prints name))
-    (spaced_prints _ (shown_part_prints arguments))
+text_prints (Verb verb value) h = joined verb _ h (spaced_prints _ (shown_part_prints value))
+text_prints (Subcommand name arguments) h = joined (codes "SITE ") _ (written (codes "SITE ") refl)
+    (joined name _ h (spaced_prints _ (shown_part_prints arguments)))
 text_prints (RefusedLine verb why) h =
     let word = joined (codes "refused") (spaced_part verb) (written (codes "refused") refl)
     (spaced_prints verb h.0) in
@@ -145,24 +152,29 @@ text_prints (RefusedLine verb why) h =
     (written (codes ": ") refl) in
     joined (codes "refused" ++ spaced_part verb ++ codes ": ") why colon h.1
 
-other_written : (listed : Bool) (verb : Bytes) → IsWritten (visible_other listed verb)
-other_written true verb = tt
-other_written false verb = tt
+other_written : (verb : Bytes) (listed : Bool) → is_listed verb ≡ listed
+    → IsWritten (visible_other listed (upper verb))
+other_written verb true is = listed_prints verb is
+other_written verb false is = written asterisks refl
 
-site_written : (shows : Option Bool) (name : Bytes) (arguments : Option Bytes)
-    → IsWritten (visible_site shows name arguments)
-site_written (Some true) name arguments = tt
-site_written (Some false) name arguments = tt
-site_written None name arguments = tt
+site_written : (name : Bytes) (value : Option Bytes) (shows : Option Bool)
+    → row_of name site_words ≡ shows → IsWritten (visible_site shows name value)
+site_written name value (Some true) is = subcommand_prints name (ap is_some is)
+site_written name value (Some false) is = subcommand_prints name (ap is_some is)
+site_written name value None is = written asterisks refl
 
-command_written : (command : FtpCommand) → IsWritten (visible_command command)
-command_written (Other verb arguments) = other_written (is_listed verb) verb
-command_written (Site name arguments) = site_written (row_of name site_words) name _
-command_written command = tt
+verb_written : (verb : Ruled) (name : Bytes) (value : Option Bytes)
+    → IsWritten (visible_verb verb name value)
+verb_written verbs_of.Other name value = other_written name (is_listed name) refl
+verb_written verbs_of.Site name value =
+    site_written (upper name) value (shows_arguments name) refl
+verb_written verb name value = written (word verb) refl
 
 pub log_line_prints : (event : FtpEvent) (line : Bytes) → ArePrintable (log_line event line)
 log_line_prints (Command command) line =
-    text_prints (visible_command command) (command_written command)
+    let parts : Said = said command in
+    text_prints (visible_said parts (shown_value line))
+    (verb_written parts.verb parts.name (visible_value parts.value (shown_value line)))
 log_line_prints (Refused fault) line = text_prints
     (RefusedLine (listed_verb line) (reason fault.source fault.kind))
     (verb_prints line, reason_prints fault.source fault.kind)

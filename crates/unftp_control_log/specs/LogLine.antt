@@ -1,15 +1,18 @@
 -- What a log shows of an event and its line: printable text in one line, and nothing of a password
 -- or an account, also where it is typed as a line of its own.
-use Rattle.std.specs.Prelude.{ℕ, ◌≤◌, Bool, true, false, ◌||◌, is_some, if◌then◌else◌, List, [], ◌∷◌, ◌++◌, length, Option, Some, None, option_map, bytes_eq, codes}
+use Rattle.std.specs.Prelude.{ℕ, ◌≤◌, Bool, true, false, ◌||◌, is_some, unwrap_or, if◌then◌else◌, List, [], ◌∷◌, ◌++◌, Option, Some, None, option_and_then, option_map, bytes_eq, codes, decimal}
 use Rattle.std.specs.Char.Escape.{escape_ascii}
 use Rattle.std.specs.List.{flat_map, list_any}
 use Rattle.unftp_control_defs.specs.Bytes.{Bytes}
-use Rattle.unftp_control_defs.specs.Events.{FaultKind, FaultSource, FtpEvent, Command, Refused, Parse, event_for, exceeds}
-use Rattle.unftp_control_defs.specs.FtpCommand.{FtpCommand, Pass, Acct, Md5, Site, Other, unless_empty, verbs}
-use Rattle.unftp_control_defs.specs.Said.{name_and_value}
+use Rattle.unftp_control_defs.specs.ComputedValue.{value_of}
+use Rattle.unftp_control_defs.specs.Events.{FaultKind, FaultSource, FtpEvent, Command, Refused, Parse, event_for}
+use Rattle.unftp_control_defs.specs.FtpCommand.{Chosen, Number, Said, Value, said, unless_empty, verbs, word}
+use Rattle.unftp_control_defs.specs.Said.{choice_word}
 use Rattle.unftp_control_defs.specs.Rules.{row_of}
 use Rattle.unftp_control_defs.specs.Texts.{kind_reason, reading_text}
-use Rattle.unftp_control_defs.specs.Verbs.{upper, verb_of}
+use Rattle.unftp_control_defs.specs.Verbs.{parameter_of, upper, verb_of}
+use Rattle.unftp_control_defs.specs.declared.verb.Verb.{Verb as Ruled}
+use Rattle.unftp_control_defs.specs.declared.verb.Verb.TheVariants as verbs_of
 use Rattle.unftp_control_write.specs.Lines.{spaced_part}
 pub use Rattle.unftp_control_serve.specs.ClientLines.{unless_too_long}
 
@@ -36,9 +39,11 @@ further_verbs =
     ∷ codes "LANG" ∷ codes "LPRT" ∷ codes "LPSV" ∷ codes "MIC" ∷ codes "REIN" ∷ codes "SMNT"
     ∷ codes "XCUP" ∷ codes "XRMD" ∷ []
 
--- A verb in upper case that a log shows. Any other may be a mistyped PASS, or a password.
+-- A verb that a log shows, ignoring ASCII case (RFC 959, section 5.3). Any other may be a mistyped
+-- PASS, or a password.
 abbrev pub is_listed : Bytes → Bool
-is_listed verb = is_some (row_of verb verbs) || list_any (bytes_eq verb) further_verbs
+is_listed verb = is_some (row_of (upper verb) verbs)
+    || list_any (bytes_eq (upper verb)) further_verbs
 
 -- The subcommands of SITE (RFC 959, section 4.1.3) that a log shows, in upper case, and whether it
 -- shows their arguments: those that are modes, seconds, times and paths. Servers take passwords
@@ -49,6 +54,42 @@ site_words =
     ∷ (codes "UTIME", true)
     ∷ (codes "EXEC", false) ∷ (codes "GPASS", false) ∷ (codes "GROUP", false)
     ∷ (codes "HELP", false) ∷ (codes "PSWD", false) ∷ []
+
+-- so of a subcommand in letters of any case; none where not even the subcommand is shown
+abbrev pub shows_arguments : Bytes → Option Bool
+shows_arguments name = row_of (upper name) site_words
+
+-- ---- of a line
+
+-- Of these verbs no parameter is shown: that of PASS and ACCT is a secret (RFC 959, section 4.1.1),
+-- and SYST and HELP ignore any text.
+abbrev pub hides_parameter : Ruled → Bool
+hides_parameter verbs_of.Pass = true
+hides_parameter verbs_of.Acct = true
+hides_parameter verbs_of.Syst = true
+hides_parameter verbs_of.Help = true
+hides_parameter _ = false
+
+-- that of a subcommand of SITE
+abbrev pub shown_argument : Bytes → Option Bytes
+shown_argument parameter = if unwrap_or (shows_arguments (verb_of parameter)) false
+    then Some (parameter_of parameter) else None
+
+abbrev pub parameter_by : Option Ruled → Bytes → Option Bytes
+parameter_by None parameter = None
+parameter_by (Some verbs_of.Site) parameter = shown_argument parameter
+parameter_by (Some verb) parameter = if hides_parameter verb then None else Some parameter
+
+-- the parameter of a line, or of its subcommand of SITE, where it is shown
+abbrev pub shown_parameter : Bytes → Option Bytes
+shown_parameter line = parameter_by (row_of (upper (verb_of line)) verbs) (parameter_of line)
+
+-- Its value, as the bytes that were sent (RFC 854): none where it is empty, or after an invalid line
+-- ending, which TYPE, EPSV and ALLO ignore.
+abbrev pub shown_value : Bytes → Option Bytes
+shown_value line = option_and_then unless_empty (option_and_then value_of (shown_parameter line))
+
+-- ---- of an event
 
 -- What a log shows of an event.
 pub data Visible : Type 0 where
@@ -68,20 +109,29 @@ visible_site (Some true) name arguments = Subcommand name arguments
 visible_site (Some false) name arguments = Subcommand name (Some asterisks)
 visible_site None name arguments = Subcommand asterisks None
 
--- Of a password and an account (RFC 959, section 4.1.1) nothing, not even whether it is empty; nor
--- of the arguments of a verb with no rule of its own.
-abbrev pub visible_command : FtpCommand → Visible
-visible_command (Pass _) = Verb (codes "PASS") (Some asterisks)
-visible_command (Acct _) = Verb (codes "ACCT") (Some asterisks)
-visible_command (Other verb _) = visible_other (is_listed verb) verb
-visible_command (Site name arguments) =
-    visible_site (row_of name site_words) name (unless_empty arguments)
-visible_command (Md5 path) = Subcommand (codes "MD5") (Some path)
-visible_command command = Verb (name_and_value command).0 (name_and_value command).1
+-- Of a password and an account nothing, not even whether it is empty; nor of the arguments of a verb
+-- with no rule of its own.
+abbrev pub visible_verb : Ruled → Bytes → Option Bytes → Visible
+visible_verb verbs_of.Pass name value = Verb (codes "PASS") (Some asterisks)
+visible_verb verbs_of.Acct name value = Verb (codes "ACCT") (Some asterisks)
+visible_verb verbs_of.Other name value = visible_other (is_listed name) (upper name)
+visible_verb verbs_of.Site name value = visible_site (shows_arguments name) (upper name) value
+visible_verb verbs_of.Md5 name value = Subcommand (codes "MD5") value
+visible_verb verb name value = Verb (word verb) value
 
--- the verb of a line in upper case (RFC 959, section 5.3), where it is listed
+-- A word and a number are shown as a canonical line has them, and any other value as it was sent.
+abbrev pub visible_value : Value → Option Bytes → Option Bytes
+visible_value (Chosen choice) sent = Some (choice_word choice)
+visible_value (Number number) sent = Some (decimal number)
+visible_value _ sent = sent
+
+abbrev pub visible_said : Said → Option Bytes → Visible
+visible_said parts sent =
+    visible_verb parts.verb parts.name (visible_value parts.value sent)
+
+-- the verb of a line in upper case, where it is listed
 abbrev pub listed_verb : Bytes → Option Bytes
-listed_verb line = if is_listed (upper (verb_of line)) then Some (upper (verb_of line)) else None
+listed_verb line = if is_listed (verb_of line) then Some (upper (verb_of line)) else None
 
 -- Why a line was refused: the parser's words, or else those for the kind. A command that was not
 -- known is not shown.
@@ -89,15 +139,16 @@ abbrev pub reason : FaultSource → FaultKind → Bytes
 reason (Parse why) kind = reading_text why
 reason _ kind = kind_reason kind
 
--- of a command nothing more is shown of its line
+-- The command says which verb is shown, and the line which value: so nothing is shown of the
+-- parameter of a line whose own verb hides it, whatever the command.
 abbrev pub visible : FtpEvent → Bytes → Visible
-visible (Command command) line = visible_command command
+visible (Command command) line = visible_said (said command) (shown_value line)
 visible (Refused fault) line = RefusedLine (listed_verb line) (reason fault.source fault.kind)
 
 abbrev pub visible_text : Visible → Bytes
-visible_text (Verb verb value) = shown verb ++ spaced_part (option_map shown value)
+visible_text (Verb verb value) = verb ++ spaced_part (option_map shown value)
 visible_text (Subcommand name arguments) =
-    codes "SITE " ++ shown name ++ spaced_part (option_map shown arguments)
+    codes "SITE " ++ name ++ spaced_part (option_map shown arguments)
 visible_text (RefusedLine verb reason) =
     codes "refused" ++ spaced_part verb ++ codes ": " ++ reason
 

@@ -1,49 +1,76 @@
 //! What a log shows of a command.
 ghost use Rattle.std.specs.Prelude.{◌≡◌, Some, option_map};
-ghost use Rattle.unftp_control_message.specs.CommandMeaning.{command_of};
-ghost use Rattle.unftp_control_defs.specs.Rules.{row_of};
-ghost use Rattle.unftp_control_log.specs.LogLine.{Verb, asterisks, is_listed, site_words, visible_command, visible_other, visible_site};
+ghost use Rattle.unftp_control_defs.specs.Verbs.{upper};
+ghost use Rattle.unftp_control_message.specs.PartsMeaning.{said_value, spelled};
+ghost use Rattle.unftp_control_message.specs.SentValues.{sent_value};
+ghost use Rattle.unftp_control_log.specs.LogLine.{Verb as ShownVerb, asterisks, is_listed, shown_value, shows_arguments, visible_other, visible_said, visible_site, visible_value};
 ghost use Rattle.unftp_control_log.specs.Meaning.{meant};
 
+use crate::parameter::shown_value;
 use crate::visible::Visible;
 use crate::words::{is_listed, shows_arguments};
 use itoa::Buffer;
-use unftp_control_message::Command;
+use unftp_control_message::parts::{Parts, Value, Verb};
+use unftp_control_message::sent::Sent;
 
 /// What a log shows in place of what it hides.
 const ASTERISKS: &[u8] = b"***";
 
-/// What a log shows of the command; `digits` has room for those of a number. No memory is taken.
-pub(crate) fn visible_command<'a>(command: &'a Command, digits: &'a mut Buffer) -> Visible<'a>
-    ensures { meant result ≡ visible_command (command_of command.now) }
+/// What a log shows of a command that says this, and of the value of its line; `digits` has room
+/// for those of a number. No memory is taken.
+pub(crate) fn visible_parts<'a>(
+    parts: &Parts<'a>,
+    line: &'a [u8],
+    digits: &'a mut Buffer,
+) -> Visible<'a>
+    ensures { meant result ≡ visible_said (spelled parts.now) (shown_value line.now) }
 {
-    let (name, value) = command.name_and_value(digits);
-    let name = name.as_bytes();
-    match command {
-        Command::Pass { .. } | Command::Acct { .. } => hidden_value(name),
-        Command::Other { .. } => visible_other(name),
-        Command::Site { .. } => visible_site(name, value),
-        Command::Md5 { .. } => Visible::Subcommand {
-            name,
+    let value = visible_value(parts.value, shown_value(line), digits);
+    let word = parts.verb.word().as_bytes();
+    let name = parts.name.as_bytes();
+    match parts.verb {
+        Verb::Pass | Verb::Acct => hidden_value(word),
+        Verb::Other => visible_other(name),
+        Verb::Site => visible_site(name, value),
+        Verb::Md5 => Visible::Subcommand {
+            name: word,
             arguments: value,
         },
-        _ => Visible::Verb { verb: name, value },
+        _ => Visible::Verb { verb: word, value },
+    }
+}
+
+/// The value that is shown: a word or a number in its canonical form, and any other as it was sent.
+fn visible_value<'a>(
+    value: Value<'a>,
+    sent: Option<Sent<'a>>,
+    digits: &'a mut Buffer,
+) -> Option<Sent<'a>>
+    ensures { option_map sent_value result
+        ≡ visible_value (said_value value.entry) (option_map sent_value sent.entry) }
+{
+    if let Value::Number(number) = value {
+        return Some(Sent::Plain(digits.format(number).as_bytes()));
+    }
+    match value {
+        Value::Chosen(choice) => Some(Sent::Plain(choice.word())),
+        _ => sent,
     }
 }
 
 /// A verb whose value is hidden.
 fn hidden_value(verb: &[u8]) -> Visible<'_>
-    ensures { meant result ≡ Verb verb.now (Some asterisks) }
+    ensures { meant result ≡ ShownVerb (upper verb.now) (Some asterisks) }
 {
     Visible::Verb {
         verb,
-        value: Some(ASTERISKS),
+        value: Some(Sent::Plain(ASTERISKS)),
     }
 }
 
 /// A verb with no rule of its own: nothing is shown of one that is not listed.
 fn visible_other(verb: &[u8]) -> Visible<'_>
-    ensures { meant result ≡ visible_other (is_listed verb.now) verb.now }
+    ensures { meant result ≡ visible_other (is_listed verb.now) (upper verb.now) }
 {
     if is_listed(verb) {
         hidden_value(verb)
@@ -56,15 +83,15 @@ fn visible_other(verb: &[u8]) -> Visible<'_>
 }
 
 /// A subcommand of SITE, and its arguments where they are shown.
-fn visible_site<'a>(name: &'a [u8], arguments: Option<&'a [u8]>) -> Visible<'a>
-    ensures { meant result
-        ≡ visible_site (row_of name.now site_words) name.now (option_map (λ value. value.now) arguments.entry) }
+fn visible_site<'a>(name: &'a [u8], arguments: Option<Sent<'a>>) -> Visible<'a>
+    ensures { meant result ≡ visible_site (shows_arguments name.now) (upper name.now)
+        (option_map sent_value arguments.entry) }
 {
     match shows_arguments(name) {
         Some(true) => Visible::Subcommand { name, arguments },
         Some(false) => Visible::Subcommand {
             name,
-            arguments: Some(ASTERISKS),
+            arguments: Some(Sent::Plain(ASTERISKS)),
         },
         None => Visible::Subcommand {
             name: ASTERISKS,

@@ -4,9 +4,9 @@ ghost use Rattle.std.specs.Prelude.{◌≡◌, ℕ, Option, false, ◌≢◌, �
 ghost use Rattle.std.specs.List.{AllByRecursion};
 ghost use Rattle.unftp_control_defs.specs.Bytes.{Bytes};
 ghost use Rattle.unftp_control_defs.specs.Events.{Command, Fault, FaultSource, FtpEvent, Refused, UnknownCommand};
-ghost use Rattle.unftp_control_defs.specs.FtpCommand.{Acct, Other, Pass};
+ghost use Rattle.unftp_control_defs.specs.FtpCommand.{Acct, FtpCommand, Other, Pass};
 ghost use Rattle.unftp_control_defs.specs.Verbs.{verb_of};
-ghost use Rattle.unftp_control_log.specs.Known.{known};
+ghost use Rattle.unftp_control_log.specs.Known.{known, shows_parameter};
 ghost use Rattle.unftp_control_log.specs.LogLine.{IsPrintable, is_listed, log_line, logged};
 ghost use Rattle.unftp_control_defs.specs.TakingSteps.{AreReplies};
 ghost use Rattle.unftp_control_defs.specs.Turns.{cut_reads};
@@ -27,16 +27,17 @@ pub fn log_lines_are_printable()
 {}
 
 /// Of every line, under any limit: its log line depends on nothing but what `known` says of it,
-/// which is its verb and its subcommand of SITE where these are listed, why it is refused, and its
-/// parameter only where that is one that is shown.
+/// which is its verb and its subcommand of SITE where these are listed, why it is refused, and of a
+/// command the value of its parameter only where that is one that is shown.
 pub fn secrets_stay_hidden()
     ensures { (limit : Option ℕ) (line other : Bytes) → known limit line ≡ known limit other
         → logged limit line ≡ logged limit other }
 {}
 
-/// Of every event, also of one that no line has: the log line is the same for all passwords and all
-/// accounts, for all arguments of a verb with no rule of its own, and for all such verbs that are
-/// not listed. A refused line shows no byte after its verb, and an error that holds a command shows
+/// Of every event with every line, also with one that is not its own: the log line is the same for
+/// all passwords and all accounts, for all arguments of a verb with no rule of its own, and for all
+/// such verbs that are not listed. It is the same for all lines whose own verb hides their
+/// parameter. A refused line shows no byte after its verb, and an error that holds a command shows
 /// none of it.
 pub fn events_hide_secrets()
     ensures password { (password other line another : Bytes)
@@ -50,6 +51,9 @@ pub fn events_hide_secrets()
         → is_listed verb ≡ false → is_listed another ≡ false
         → log_line (Command (Other verb arguments)) line
         ≡ log_line (Command (Other another other)) line }
+    ensures parameters { (command : FtpCommand) (line other : Bytes)
+        → shows_parameter line ≡ false → shows_parameter other ≡ false
+        → log_line (Command command) line ≡ log_line (Command command) other }
     ensures refused { (fault : Fault) (line other : Bytes) → verb_of line ≡ verb_of other
         → log_line (Refused fault) line ≡ log_line (Refused fault) other }
     ensures unknown { (source : FaultSource) (command other line : Bytes)

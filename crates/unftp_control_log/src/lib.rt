@@ -3,15 +3,18 @@
 //! the exchanges in what both sides send, in any pieces.
 #![tactic(auto)]
 
-ghost use Rattle.std.specs.Prelude.{◌≡◌, ◌++◌, OnErr, OnOk};
+ghost use Rattle.std.specs.Prelude.{◌≡◌, ◌++◌, OnErr, OnOk, None};
+ghost use Rattle.unftp_control_defs.specs.Events.{event_of};
+ghost use Rattle.unftp_control_defs.specs.Outcome.{outcome};
 ghost use Rattle.unftp_control_defs.specs.Room.{LacksRoom};
-ghost use Rattle.unftp_control_log.specs.LogLine.{log_line, visible};
+ghost use Rattle.unftp_control_log.specs.LogLine.{log_line, logged, visible};
 ghost use Rattle.unftp_control_log.specs.Meaning.{meant};
 ghost use Rattle.unftp_control_serve.specs.EventMeaning.{event_meant};
 
 mod command;
 pub mod examples;
 pub mod laws;
+mod parameter;
 mod recorder;
 mod refusal;
 mod sent;
@@ -21,14 +24,15 @@ mod visible;
 mod words;
 mod write;
 
-use crate::command::visible_command;
+use crate::command::visible_parts;
 pub use crate::recorder::{Exchange, Limits, Recorder};
-use crate::refusal::visible_refusal;
+use crate::refusal::{reason, visible_refusal};
 use crate::text::append_visible;
 use crate::visible::Visible;
 pub use crate::write::write_exchange;
 use itoa::Buffer;
 use std::alloc::AllocError;
+use unftp_control_codecs::line_parser::parts;
 use unftp_control_serve::Event;
 
 /// What a log shows of the event; `digits` has room for those of a number. No memory is taken.
@@ -36,8 +40,18 @@ fn visible_event<'a>(event: &'a Event, line: &'a [u8], digits: &'a mut Buffer) -
     ensures { meant result ≡ visible (event_meant event.now) line.now }
 {
     match event {
-        Event::Command(command) => visible_command(command, digits),
-        Event::Refused(error) => visible_refusal(error, line),
+        Event::Command(command) => visible_parts(&command.parts(), line, digits),
+        Event::Refused(error) => visible_refusal(reason(error), line),
+    }
+}
+
+/// What a log shows of the event of a line, without making its command.
+fn visible_line<'a>(line: &'a [u8], digits: &'a mut Buffer) -> Visible<'a>
+    ensures { meant result ≡ visible (event_of (outcome line.now)) line.now }
+{
+    match parts(line) {
+        Ok(parts) => visible_parts(&parts, line, digits),
+        Err(refused) => visible_refusal(refused.reason(), line),
     }
 }
 
@@ -45,13 +59,27 @@ fn visible_event<'a>(event: &'a Event, line: &'a [u8], digits: &'a mut Buffer) -
 /// earlier byte of `buf`. `line` is what `EventDecoder::line` returned with the event: empty where
 /// the line is too long.
 ///
-/// A command is its verb in upper case and its value after a space, in the escapes of Rust's
-/// `escape_ascii`; SITE is followed by its subcommand. The value of PASS and ACCT is `***`, also an
-/// empty one (RFC 959, section 4.1.1). A verb with no rule of its own may be a mistyped PASS, or a
-/// password: it is `***` unless it is a word of the registry of FTP's commands (RFC 5797, section
-/// 3), whose arguments are `***`. So it is with the subcommands of SITE but CHMOD, IDLE, MD5,
-/// UMASK and UTIME. A refused line is `refused`, its verb where it is such a word or has a rule,
-/// and the words of the error; of its parameter nothing is shown.
+/// | a line | its log line |
+/// |---|---|
+/// | `xcwd a`, `BYE`, `type a` | `CWD a`, `QUIT`, `TYPE a` |
+/// | `LIST -la x`, `RETR a` and a byte 0xe9 | `LIST -la x`, `RETR a\xe9` |
+/// | `REST +5`, `auth tls` | `REST 5`, `AUTH TLS` |
+/// | `site chmod 644 a`, `SITE PSWD old new`, `SITE secret` | `SITE CHMOD 644 a`, `SITE PSWD ***`, `SITE ***` |
+/// | `PASS secret`, `PASS`, `LANG`, `PSAS secret` | `PASS ***`, `PASS ***`, `LANG ***`, `***` |
+/// | `NOOP x` | `refused NOOP: Invalid command` |
+///
+/// A command is its canonical verb, and after a space the value of the line's parameter as the bytes
+/// that were sent, in the escapes of Rust's `escape_ascii`; CR NUL is one CR (RFC 854). STRU, MODE,
+/// PROT, AUTH, OPTS, PBSZ and REST have the value of their command, and SYST and HELP none. The
+/// value of PASS and ACCT is `***`, also an empty one (RFC 959, section 4.1.1).
+///
+/// A verb with no rule of its own may be a mistyped PASS, or a password: it is `***`, unless it is a
+/// word of the registry of FTP's commands (RFC 5797, section 3), ALGS (RFC 6384) or HOST (RFC 7151),
+/// with `***` for its arguments, also where it has none. So it is with the subcommands of SITE but
+/// CHMOD, IDLE, MD5, UMASK and UTIME, whose arguments are shown. A refused line is `refused`, its
+/// verb where it is such a word or has a rule, and the words of the error, such as `Invalid command`,
+/// `Non-UTF8 character while parsing`, `Invalid end-of-line` or `Line too long`; of its parameter
+/// nothing is shown. Nor is the parameter of a line whose own verb hides it, with whatever event.
 ///
 /// It takes no memory but what `buf` needs, and fails only where `buf` lacks room for the line and
 /// can't grow: `buf` is then as it was. Nothing that is hidden is written to `buf`, not even to be
@@ -65,4 +93,16 @@ pub fn write_log_line(event: &Event, line: &[u8], buf: &mut Vec<u8>) -> Result<(
 {
     let mut digits = Buffer::new();
     append_visible(&visible_event(event, line, &mut digits), buf)
+}
+
+/// Appends what `write_log_line` appends for a line and its event, without making the event: so
+/// there is no memory for a command. `line` is a line of any length, with its line feed or without
+/// one.
+pub fn write_log_of(line: &[u8], buf: &mut Vec<u8>) -> Result<(), AllocError>
+    ensures ok { OnOk result (buf.new.items ≡ buf.old.items ++ logged None line.now) }
+    ensures err { OnErr result (buf.new.items ≡ buf.old.items) }
+    ensures memory { OnErr result (LacksRoom buf.old (logged None line.now)) }
+{
+    let mut digits = Buffer::new();
+    append_visible(&visible_line(line, &mut digits), buf)
 }

@@ -6,7 +6,7 @@ ghost use Rattle.unftp_control_log.specs.Meaning.{meant};
 ghost use Rattle.unftp_control_message.specs.ErrorMeaning.{fault_of};
 
 use crate::visible::Visible;
-use crate::words::is_listed_in_any_case;
+use crate::words::is_listed;
 use unftp_control_codecs::line_parser::split;
 use unftp_control_message::reply::error::{ControlChanError, Source};
 
@@ -15,16 +15,12 @@ fn listed_verb(line: &[u8]) -> Option<&[u8]>
     ensures { option_map (λ verb. upper verb.now) result ≡ listed_verb line.now }
 {
     let (verb, _) = split(line);
-    if is_listed_in_any_case(verb) {
-        Some(verb)
-    } else {
-        None
-    }
+    if is_listed(verb) { Some(verb) } else { None }
 }
 
 /// Why the line was refused: the parser's words, or else those for the kind, without the command
 /// that it may hold.
-fn reason(error: &ControlChanError) -> &'static str
+pub(crate) fn reason(error: &ControlChanError) -> &'static str
     ensures { result.now ≡ reason (fault_of error.now).source (fault_of error.now).kind }
 {
     match error.source() {
@@ -33,13 +29,12 @@ fn reason(error: &ControlChanError) -> &'static str
     }
 }
 
-/// What a log shows of a refused line. No memory is taken.
-pub(crate) fn visible_refusal<'a>(error: &ControlChanError, line: &'a [u8]) -> Visible<'a>
-    ensures { meant result ≡ RefusedLine (listed_verb line.now)
-        (reason (fault_of error.now).source (fault_of error.now).kind) }
+/// What a log shows of a line that was refused for this reason. No memory is taken.
+pub(crate) fn visible_refusal<'a>(why: &'static str, line: &'a [u8]) -> Visible<'a>
+    ensures { meant result ≡ RefusedLine (listed_verb line.now) why.now }
 {
     Visible::Refused {
         verb: listed_verb(line),
-        reason: reason(error),
+        reason: why,
     }
 }

@@ -4,10 +4,12 @@ ghost use Rattle.unftp_control_defs.specs.Room.{LacksRoom};
 ghost use Rattle.unftp_control_defs.specs.Verbs.{upper};
 ghost use Rattle.unftp_control_log.specs.LogLine.{RefusedLine, shown, visible_text};
 ghost use Rattle.unftp_control_log.specs.Meaning.{meant};
+ghost use Rattle.unftp_control_message.specs.SentValues.{first_unit_len, sent_value, unescaped};
 ghost use Rattle.unftp_control_write.specs.Lines.{spaced_part};
 
 use crate::visible::Visible;
 use std::alloc::AllocError;
+use unftp_control_message::sent::{Sent, begins_with_cr_nul};
 
 /// How long the text is in the escapes of `escape_ascii`, where so much can be counted.
 fn shown_length(text: &[u8]) -> usize
@@ -36,20 +38,73 @@ pub fn append_shown(text: &[u8], buf: &mut Vec<u8>) -> Result<(), AllocError>
     Ok(())
 }
 
+/// How many bytes are sent for the first byte of a value (RFC 854).
+fn unit_len(bytes: &[u8]) -> usize
+    ensures { result ≡ first_unit_len bytes.now }
+{
+    if begins_with_cr_nul(bytes) { 2 } else { 1 }
+}
+
+/// Appends the value for which these bytes are sent, in these escapes: the NUL after a CR is none of
+/// its bytes (RFC 854).
+fn append_unescaped(sent: &[u8], buf: &mut Vec<u8>) -> Result<(), AllocError>
+    ensures ok { OnOk result (buf.new.items ≡ buf.old.items ++ shown (unescaped sent.now)) }
+    ensures kept { take (vec_len buf.old) buf.new.items ≡ buf.old.items }
+    ensures memory { OnErr result (LacksRoom buf.old (shown (unescaped sent.now))) }
+{
+    let mut rest = sent;
+    'bytes: while !rest.is_empty() {
+        let (first, _) = rest.split_at(1);
+        let (_, further) = rest.split_at(unit_len(rest));
+        append_shown(first, buf)?;
+        rest = further;
+    }
+    Ok(())
+}
+
+/// Appends a value in these escapes, or perhaps a part of it when out of memory.
+fn append_sent(value: Sent<'_>, buf: &mut Vec<u8>) -> Result<(), AllocError>
+    ensures ok { OnOk result
+        (buf.new.items ≡ buf.old.items ++ shown (sent_value value.entry)) }
+    ensures kept { take (vec_len buf.old) buf.new.items ≡ buf.old.items }
+    ensures memory { OnErr result (LacksRoom buf.old (shown (sent_value value.entry))) }
+{
+    match value {
+        Sent::Plain(bytes) => append_shown(bytes, buf),
+        Sent::Escaped(sent) => append_unescaped(sent, buf),
+    }
+}
+
 /// Appends a space and the value in these escapes, if there is one, or perhaps a part of them when
 /// out of memory.
-fn append_value(value: Option<&[u8]>, buf: &mut Vec<u8>) -> Result<(), AllocError>
+fn append_value(value: Option<Sent<'_>>, buf: &mut Vec<u8>) -> Result<(), AllocError>
     ensures ok { OnOk result (buf.new.items ≡ buf.old.items
-        ++ spaced_part (option_map shown (option_map (λ value. value.now) value.entry))) }
+        ++ spaced_part (option_map shown (option_map sent_value value.entry))) }
     ensures kept { take (vec_len buf.old) buf.new.items ≡ buf.old.items }
     ensures memory { OnErr result (LacksRoom buf.old
-        (spaced_part (option_map shown (option_map (λ value. value.now) value.entry)))) }
+        (spaced_part (option_map shown (option_map sent_value value.entry)))) }
 {
     let Some(value) = value else {
         return Ok(());
     };
     buf.push(b' ')?;
-    append_shown(value, buf)
+    append_sent(value, buf)
+}
+
+/// Appends a word in upper case.
+fn append_word(word: &[u8], buf: &mut Vec<u8>) -> Result<(), AllocError>
+    ensures ok { OnOk result (buf.new.items ≡ buf.old.items ++ upper word.now) }
+    ensures kept { take (vec_len buf.old) buf.new.items ≡ buf.old.items }
+    ensures memory { OnErr result (LacksRoom buf.old (upper word.now)) }
+    ensures capacity { vec_capacity buf.old ≤ vec_capacity buf.new }
+{
+    let length = buf.len();
+    buf.extend_from_slice(word)?;
+    buf.as_mut_slice()
+        .split_at_mut(length)
+        .1
+        .make_ascii_uppercase();
+    Ok(())
 }
 
 /// Appends a space and the verb of a refused line in upper case, if there is one.
@@ -65,13 +120,7 @@ fn append_verb(verb: Option<&[u8]>, buf: &mut Vec<u8>) -> Result<(), AllocError>
         return Ok(());
     };
     buf.push(b' ')?;
-    let length = buf.len();
-    buf.extend_from_slice(verb)?;
-    buf.as_mut_slice()
-        .split_at_mut(length)
-        .1
-        .make_ascii_uppercase();
-    Ok(())
+    append_word(verb, buf)
 }
 
 /// Appends what is shown of a refused line, or perhaps a part of it when out of memory.
@@ -97,12 +146,12 @@ fn append_parts(visible: &Visible<'_>, buf: &mut Vec<u8>) -> Result<(), AllocErr
 {
     match visible {
         Visible::Verb { verb, value } => {
-            append_shown(verb, buf)?;
+            append_word(verb, buf)?;
             append_value(*value, buf)
         }
         Visible::Subcommand { name, arguments } => {
             buf.extend_from_slice(b"SITE ")?;
-            append_shown(name, buf)?;
+            append_word(name, buf)?;
             append_value(*arguments, buf)
         }
         Visible::Refused { verb, reason } => append_refusal(*verb, reason, buf),

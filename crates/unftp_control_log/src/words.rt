@@ -3,25 +3,24 @@ ghost use Rattle.std.specs.Prelude.{◌≡◌, bytes_eq};
 ghost use Rattle.std.specs.List.{list_any};
 ghost use Rattle.unftp_control_defs.specs.Rules.{row_of};
 ghost use Rattle.unftp_control_defs.specs.Verbs.{upper};
-ghost use Rattle.unftp_control_log.specs.LogLine.{further_verbs, is_listed, site_words};
+ghost use Rattle.unftp_control_log.specs.LogLine.{further_verbs, is_listed, shows_arguments, site_words};
 
-use unftp_control_codecs::line_parser::is_verb;
 use unftp_control_defs::verb::verb_named;
 
-/// Whether a log shows this verb: one in upper case with a rule of its own, or another of the
-/// registry of FTP's commands (RFC 5797, section 3; XCUP and XRMD are of RFC 1123, section
-/// 4.1.3.1).
+/// Whether a log shows this verb, in letters of any case: one with a rule of its own, or another of
+/// the registry of FTP's commands (RFC 5797, section 3; XCUP and XRMD are of RFC 1123, section
+/// 4.1.3.1). No memory is taken.
 pub(crate) fn is_listed(verb: &[u8]) -> bool
     ensures { result ≡ is_listed verb.now }
 {
-    is_verb(verb) || is_further_verb(verb)
+    verb_named(verb).is_some() || is_further_in_any_case(verb)
 }
 
-/// So it is of a verb in letters of any case. No memory is taken.
-pub(crate) fn is_listed_in_any_case(verb: &[u8]) -> bool
-    ensures { result ≡ is_listed (upper verb.now) }
-{
-    verb_named(verb).is_some() || is_further_in_any_case(verb)
+/// Calls a function with these letters in upper case.
+macro_rules! in_upper_case {
+    ($call:ident, $($letter:ident)+) => {
+        $call(&[$($letter.to_ascii_uppercase()),+])
+    };
 }
 
 /// Whether the verb, in letters of any case, has no rule of its own, and is of that registry: its
@@ -30,17 +29,8 @@ fn is_further_in_any_case(verb: &[u8]) -> bool
     ensures { result ≡ list_any (bytes_eq (upper verb.now)) further_verbs }
 {
     match verb {
-        [a, b, c] => is_further_verb(&[
-            a.to_ascii_uppercase(),
-            b.to_ascii_uppercase(),
-            c.to_ascii_uppercase(),
-        ]),
-        [a, b, c, d] => is_further_verb(&[
-            a.to_ascii_uppercase(),
-            b.to_ascii_uppercase(),
-            c.to_ascii_uppercase(),
-            d.to_ascii_uppercase(),
-        ]),
+        [a, b, c] => in_upper_case!(is_further_verb, a b c),
+        [a, b, c, d] => in_upper_case!(is_further_verb, a b c d),
         _ => false,
     }
 }
@@ -68,9 +58,21 @@ fn is_further_verb(verb: &[u8]) -> bool
     )
 }
 
-/// Whether a log shows the arguments of this SITE subcommand, in upper case; none where it does not
-/// even show the subcommand.
+/// Whether a log shows the arguments of this subcommand of SITE, in letters of any case; none where
+/// it does not even show the subcommand: those that it shows have three to five letters.
 pub(crate) fn shows_arguments(subcommand: &[u8]) -> Option<bool>
+    ensures { result ≡ shows_arguments subcommand.now }
+{
+    match subcommand {
+        [a, b, c] => in_upper_case!(upper_case_shows_arguments, a b c),
+        [a, b, c, d] => in_upper_case!(upper_case_shows_arguments, a b c d),
+        [a, b, c, d, e] => in_upper_case!(upper_case_shows_arguments, a b c d e),
+        _ => None,
+    }
+}
+
+/// So it is of one in upper case.
+fn upper_case_shows_arguments(subcommand: &[u8]) -> Option<bool>
     ensures { result ≡ row_of subcommand.now site_words }
 {
     match subcommand {

@@ -456,12 +456,12 @@ impl Conversation {
         Ok(true)
     }
 
-    /// The exchange that a line begins. The log shows some lines without their parameters, of which
-    /// only a letter, as that of TYPE, is no secret.
+    /// The exchange that a line begins. The log shows some lines without their parameters, as that of
+    /// HELP, and then without the texts of its replies.
     fn exchange(&self, line: &OwnedLine) -> Result<Exchange, End> {
         let shown = line.log_line()?;
-        let is_short = line.parameter().is_ok_and(|value| value.len() <= 1);
-        let lacks_parameter = !shown.contains(' ') && !is_short;
+        let has_parameter = line.parameter().map_or(true, |value| !value.is_empty());
+        let lacks_parameter = !shown.contains(' ') && has_parameter;
         let mut exchange = Exchange::new(self.session, self.addresses.client, Some(shown));
         if lacks_parameter {
             exchange.hide();

@@ -295,7 +295,7 @@ static void check_logged(const char *line, struct taken taken)
     wants(is_command(taken.result) || begins_with(shown, "refused"),
           "a log says that a line is refused");
     wants(is_text(too_long, "refused: Line too long"), "a log says that a line is too long");
-    wants(shown.len <= 12 * used + 42 && too_long.len <= 12 * used + 42,
+    wants(shown.len <= 4 * used + 42 && too_long.len <= 4 * used + 42,
           "a log line needs no more than the header says");
     free_area(shown);
     free_area(too_long);
@@ -534,6 +534,9 @@ static void check_log_lines(void)
         {"SITE umask 022\r\n", "SITE UMASK 022"},
         {"RETR a\tb'c\"d\\e\x7f\r\n", "RETR a\\tb\\'c\\\"d\\\\e\\x7f"},
         {"STAT \xe9\r\n", "STAT \\xe9"},
+        {"retr \xe9\r\n", "RETR \\xe9"},
+        {"type i\r\n", "TYPE i"},
+        {"LIST -la x\r\n", "LIST -la x"},
     };
 
     for (size_t at = 0; at < sizeof lines / sizeof lines[0]; at++) {

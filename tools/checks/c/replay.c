@@ -464,7 +464,7 @@ static bool answer_log(struct words *words)
     if (!unquote_from(words, 1))
         return false;
     line = words->bytes[1];
-    room = 12 * line.len + 42;
+    room = 4 * line.len + 42;
     out.at = room_of(room);
     result = unftp_next(&connection, line.at, line.len, out.at, room, &taken);
     if (result == UNFTP_MORE)

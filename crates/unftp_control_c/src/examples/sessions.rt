@@ -19,6 +19,7 @@ ghost use Rattle.unftp_control_c.specs.declared.status.Status.TheVariants.{Inval
 /// Log lines, by what `unftp_next` returned: 2 is PASS, and 105 a line that is too long.
 pub fn lines_are_logged()
     ensures password { numbered_log_line 2 (codes "PASS a\r\n") ≡ codes "PASS ***" }
+    ensures representation { numbered_log_line 6 (codes "TYPE I\r\n") ≡ codes "TYPE I" }
     ensures end_of_a_line { numbered_log_line 105 (codes "PASS a\r\n")
         ≡ codes "refused: Line too long" }
     ensures refused { numbered_log_line 104 (codes "PASS a\rb\r\n")
