@@ -1,5 +1,5 @@
 -- How many bytes a log line has.
-use Rattle.std.proofs.Common.{◌≡◌, ◌<◌, ◌/◌, ◌%◌, ℕ, ◌+◌, ◌*◌, ◌≤◌, ◌==◌, nat_lt, Bool, true, false, zero, suc, mod-lt, refl, [], ◌∷◌, ◌++◌, length, Option, Some, None, option_map, unwrap_or, is_some, Ok, Err, arith, codes, decimal, if◌then◌else◌, length-append}
+use Rattle.std.proofs.Common.{◌≡◌, ◌<◌, ◌/◌, ◌%◌, ℕ, ◌+◌, ◌*◌, ◌≤◌, ◌==◌, nat_lt, Bool, true, false, zero, suc, mod-lt, refl, [], ◌∷◌, ◌++◌, length, Option, Some, None, option_map, unwrap_or, Ok, Err, arith, codes, decimal, if◌then◌else◌, length-append}
 use Rattle.std.specs.Char.{to_ascii_uppercase}
 use Rattle.std.specs.Char.Escape.{escape_ascii, short_escape}
 use Rattle.std.specs.Fmt.{digits, digits_onto, digit_glyph}
@@ -32,7 +32,7 @@ use Rattle.unftp_control_defs.specs.declared.verb.Verb.{Verb as Ruled}
 use Rattle.unftp_control_defs.specs.declared.verb.Verb.TheVariants as verbs_of
 use Rattle.unftp_control_defs.proofs.RuleLemmas.{found}
 use Rattle.unftp_control_defs.proofs.ValueLemmas.{Reads-value_of}
-use Rattle.unftp_control_log.specs.LogLine.{hides_parameter, is_listed, log_line, logged, parameter_by, shown, shown_parameter, shown_value, shows_arguments, site_words, visible_other, visible_said, visible_site, visible_text, visible_value}
+use Rattle.unftp_control_log.specs.LogLine.{is_listed, log_line, logged, parameter_by, shown, shown_parameter, shown_value, shows_arguments, site_words, visible_other, visible_said, visible_site, visible_text, visible_value}
 use Rattle.unftp_control_write.specs.Lines.{spaced_part}
 use Rattle.unftp_control_c.specs.Areas.{Made, written}
 use Rattle.unftp_control_c.specs.LogLines.{IsLogLine, numbered_log_line}
