@@ -494,13 +494,14 @@ uint32_t unftp_is_clear(const char *line, size_t line_len) UNFTP_NONNULL;
  * A command is its canonical verb, and after a space the value of the line's parameter as the bytes
  * that were sent, with what is not printable escaped as in Rust: \t, \r, \n, \', \", \\, or \x and
  * two digits; CR NUL is one CR. STRU, MODE, PROT, AUTH, OPTS, PBSZ and REST have the value that
- * unftp_next gives, and SYST and HELP none. The value of PASS and ACCT is ***, also an empty one. A
- * verb with no rule of its own may be a mistyped PASS, or a password: it is ***. A word of the
- * registry of FTP's commands (RFC 5797, section 3), ALGS (RFC 6384) and HOST (RFC 7151) are shown,
- * with *** for their arguments, also where there are none. Of SITE the subcommands CHMOD, IDLE, MD5,
- * UMASK and UTIME are shown with their arguments, EXEC, GPASS, GROUP, HELP and PSWD with ***, and
- * any other is ***. The name of USER and paths are shown, and so is a password that a client sends
- * in their place, or one that is itself a verb.
+ * unftp_next gives. SYST and HELP have none, nor have TYPE, EPSV and ALLO where the line end is
+ * invalid, which they ignore. The value of PASS and ACCT is ***, also an empty one. A verb with no
+ * rule of its own may be a mistyped PASS, or a password: it is ***. A word of the registry of FTP's
+ * commands (RFC 5797, section 3), ALGS (RFC 6384) and HOST (RFC 7151) are shown, with *** for their
+ * arguments, also where there are none. Of SITE the subcommands CHMOD, IDLE, MD5, UMASK and UTIME
+ * are shown with their arguments, EXEC, GPASS, GROUP, HELP and PSWD with ***, and any other is ***.
+ * The name of USER and paths are shown, and so is a password that a client sends in their place, or
+ * one that is itself a verb.
  *
  * A refused line is `refused`, a space and its verb where that has a rule here or is such a word,
  * `: `, and why; nothing is shown of its parameter. Why is one of `Invalid command`, `Non-UTF8

@@ -1,22 +1,25 @@
 -- How many bytes a log line has.
-use Rattle.std.proofs.Common.{◌≡◌, ◌<◌, ◌/◌, ◌%◌, ℕ, ◌+◌, ◌*◌, ◌≤◌, ◌==◌, nat_lt, Bool, true, false, zero, suc, mod-lt, refl, [], ◌∷◌, ◌++◌, length, Option, Some, None, option_map, unwrap_or, is_some, Ok, Err, arith, codes, decimal, if◌then◌else◌, length-append, length-map}
+use Rattle.std.proofs.Common.{◌≡◌, ◌<◌, ◌/◌, ◌%◌, ℕ, ◌+◌, ◌*◌, ◌≤◌, ◌==◌, nat_lt, Bool, true, false, zero, suc, mod-lt, refl, [], ◌∷◌, ◌++◌, length, Option, Some, None, option_map, unwrap_or, Ok, Err, arith, codes, decimal, if◌then◌else◌, length-append}
 use Rattle.std.specs.Char.{to_ascii_uppercase}
 use Rattle.std.specs.Char.Escape.{escape_ascii, short_escape}
 use Rattle.std.specs.Fmt.{digits, digits_onto, digit_glyph}
 use Rattle.std.specs.List.{AllByRecursion}
 use Rattle.std.specs.Prelude.{option_and_then}
 use Rattle.std.proofs.lemmas.Bool.{cond_both}
+use Rattle.std.proofs.lemmas.List.{length-map}
 use Rattle.unftp_control_defs.specs.Bytes.{Bytes}
 use Rattle.unftp_control_defs.specs.ComputedValue.{value_of}
 use Rattle.unftp_control_defs.specs.Events.{Command, Refused, event_of, line_too_long}
-use Rattle.unftp_control_defs.specs.FtpCommand.{Outcome, FtpCommand, InvalidCommand, InvalidEol, InvalidUtf8, Auth, Mode, Opts, Other, Prot, Rest, Site, Stru, said, unless_empty, verbs}
+use Rattle.unftp_control_defs.specs.FtpCommand.{Outcome, FtpCommand, InvalidCommand, InvalidEol, InvalidUtf8, Chosen, Number, Other, Site, Value, maybe_text, said, unless_empty, verbs}
 use Rattle.unftp_control_defs.specs.Outcome.{outcome}
 use Rattle.unftp_control_defs.specs.Rules.{row_of}
-use Rattle.unftp_control_defs.specs.Said.{mechanism, mode_letter, protection_letter, setting, structure_letter}
+use Rattle.unftp_control_defs.specs.Said.{choice_word, mechanism, mode_letter, protection_letter, setting, structure_letter, value_bytes}
 use Rattle.unftp_control_defs.specs.Texts.{reading_text}
 use Rattle.unftp_control_defs.specs.Verbs.{parameter_of, upper, verb_of}
 use Rattle.unftp_control_defs.specs.declared.parameters.AuthParam.{AuthParam}
 use Rattle.unftp_control_defs.specs.declared.parameters.AuthParam.TheVariants.{Ssl, Tls}
+use Rattle.unftp_control_defs.specs.declared.parameters.Choice.{Choice}
+use Rattle.unftp_control_defs.specs.declared.parameters.Choice.TheVariants as choices
 use Rattle.unftp_control_defs.specs.declared.parameters.ModeParam.{ModeParam}
 use Rattle.unftp_control_defs.specs.declared.parameters.ModeParam.TheVariants.{Stream, Block, Compressed}
 use Rattle.unftp_control_defs.specs.declared.parameters.Opt.{Opt}
@@ -29,7 +32,7 @@ use Rattle.unftp_control_defs.specs.declared.verb.Verb.{Verb as Ruled}
 use Rattle.unftp_control_defs.specs.declared.verb.Verb.TheVariants as verbs_of
 use Rattle.unftp_control_defs.proofs.RuleLemmas.{found}
 use Rattle.unftp_control_defs.proofs.ValueLemmas.{Reads-value_of}
-use Rattle.unftp_control_log.specs.LogLine.{hides_parameter, is_listed, log_line, logged, parameter_by, shown, shown_parameter, shown_value, shows_arguments, site_words, visible_other, visible_said, visible_site, visible_text}
+use Rattle.unftp_control_log.specs.LogLine.{is_listed, log_line, logged, parameter_by, shown, shown_parameter, shown_value, shows_arguments, site_words, visible_other, visible_said, visible_site, visible_text, visible_value}
 use Rattle.unftp_control_write.specs.Lines.{spaced_part}
 use Rattle.unftp_control_c.specs.Areas.{Made, written}
 use Rattle.unftp_control_c.specs.LogLines.{IsLogLine, numbered_log_line}
@@ -60,17 +63,17 @@ part_room (Some text) = omega (arith, shown_room text)
 
 -- the digits of a number are shown as they are
 glyph_room : (d : ℕ) → d < 10 → length (escape_ascii (digit_glyph false d)) ≤ 1
-glyph_room 0 small = omega arith
-glyph_room 1 small = omega arith
-glyph_room 2 small = omega arith
-glyph_room 3 small = omega arith
-glyph_room 4 small = omega arith
-glyph_room 5 small = omega arith
-glyph_room 6 small = omega arith
-glyph_room 7 small = omega arith
-glyph_room 8 small = omega arith
-glyph_room 9 small = omega arith
-glyph_room d small = absurd (omega (arith, small))
+glyph_room zero small = omega arith
+glyph_room (suc zero) small = omega arith
+glyph_room (suc (suc zero)) small = omega arith
+glyph_room (suc (suc (suc zero))) small = omega arith
+glyph_room (suc (suc (suc (suc zero)))) small = omega arith
+glyph_room (suc (suc (suc (suc (suc zero))))) small = omega arith
+glyph_room (suc (suc (suc (suc (suc (suc zero)))))) small = omega arith
+glyph_room (suc (suc (suc (suc (suc (suc (suc zero))))))) small = omega arith
+glyph_room (suc (suc (suc (suc (suc (suc (suc (suc zero)))))))) small = omega arith
+glyph_room (suc (suc (suc (suc (suc (suc (suc (suc (suc zero))))))))) small = omega arith
+glyph_room (suc (suc (suc (suc (suc (suc (suc (suc (suc (suc d)))))))))) small = absurd (omega (arith, small))
 
 onto_room : (k n : ℕ) (more : Bytes) → length (shown more) ≤ length more
     → length (shown (digits_onto k 10 false n more)) ≤ length (digits_onto k 10 false n more)
@@ -184,20 +187,37 @@ setting_room : (option : Opt) → length (shown (setting option)) ≤ 8
 setting_room (Utf8 true) = omega arith
 setting_room (Utf8 false) = omega arith
 
+choice_room : (choice : Choice) → length (shown (choice_word choice)) ≤ 8
+choice_room (choices.Structure structure) = omega (arith, letter_room structure)
+choice_room (choices.Mode mode) = omega (arith, mode_room mode)
+choice_room (choices.Protection param) = omega (arith, level_room param)
+choice_room (choices.Mechanism protocol) = omega (arith, mechanism_room protocol)
+choice_room (choices.Setting option) = setting_room option
+choice_room choices.NoBuffer = omega arith
+
+-- what is shown of a value that has at most 3 n bytes, where its line has n
+sent_room : (said : Value) (value : Option Bytes) (n : ℕ) → length (unwrap_or value []) ≤ n
+    → length (unwrap_or (value_bytes said) []) ≤ 3 * n
+    → length (spaced_part (option_map shown (visible_value said value))) ≤ 4 * n + 9
+sent_room (Chosen choice) value n short room = omega (arith, choice_room choice)
+sent_room (Number number) value n short room = omega (arith, decimal_room number, room)
+sent_room said value n short room = omega (arith, part_room value, short)
+
 command_room : (command : FtpCommand) (value : Option Bytes) (n : ℕ)
     → length (unwrap_or value []) ≤ n → lengths (Command command) ≤ 3 * n
     → length (visible_text (visible_said (said command) value)) ≤ 4 * n + 42
 command_room (Other name arguments) value n short room =
     omega (arith, other_room (is_listed name) name, room)
 command_room (Site name arguments) value n short room =
-    omega (arith, site_room name value (shows_arguments name) refl, part_room value, short)
-command_room (Stru structure) value n short room = omega (arith, letter_room structure)
-command_room (Mode mode) value n short room = omega (arith, mode_room mode)
-command_room (Prot param) value n short room = omega (arith, level_room param)
-command_room (Auth protocol) value n short room = omega (arith, mechanism_room protocol)
-command_room (Opts option) value n short room = omega (arith, setting_room option)
-command_room (Rest offset) value n short room = omega (arith, decimal_room offset, room)
-command_room command value n short room = omega (arith, part_room value, short)
+    let text : Value = maybe_text (unless_empty arguments) in omega (
+      arith,
+      site_room name (visible_value text value) (shows_arguments name) refl,
+      sent_room text value n short (omega (arith, room)),
+    )
+command_room command value n short room = omega (
+  arith,
+  sent_room (said command).value value n short (omega (arith, room)),
+)
 
 -- ---- of a line
 

@@ -64,7 +64,8 @@ fn visible_line<'a>(line: &'a [u8], digits: &'a mut Buffer) -> Visible<'a>
 /// | `xcwd a`, `BYE`, `type a` | `CWD a`, `QUIT`, `TYPE a` |
 /// | `LIST -la x`, `RETR a` and a byte 0xe9 | `LIST -la x`, `RETR a\xe9` |
 /// | `REST +5`, `auth tls` | `REST 5`, `AUTH TLS` |
-/// | `site chmod 644 a`, `SITE PSWD old new`, `SITE secret` | `SITE CHMOD 644 a`, `SITE PSWD ***`, `SITE ***` |
+/// | `site chmod 644 a` | `SITE CHMOD 644 a` |
+/// | `SITE PSWD old new`, `SITE secret` | `SITE PSWD ***`, `SITE ***` |
 /// | `PASS secret`, `PASS`, `LANG`, `PSAS secret` | `PASS ***`, `PASS ***`, `LANG ***`, `***` |
 /// | `NOOP x` | `refused NOOP: Invalid command` |
 ///
