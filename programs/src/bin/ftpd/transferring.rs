@@ -4,6 +4,7 @@ use crate::record::{Action, Outcome};
 use crate::session::{log, End, Session};
 use crate::transfer::{Fault, Transfer, Work};
 use crate::GRACE;
+use std::future::Future;
 use std::mem;
 use std::pin::pin;
 use std::sync::atomic::{AtomicU64, Ordering};
@@ -93,12 +94,17 @@ impl Session {
             tokio::select! {
                 done = &mut running => return Ok(Ended::Done(done)),
                 line = control.line_in_transfer(), if control.may_wait() => {
-                    let line = line?;
+                    let line = match line {
+                        Ok(line) => line,
+                        Err(lost) => {
+                            let _ = end_early(&abort, running).await;
+                            return Err(lost.into());
+                        }
+                    };
                     match line.event {
                         Event::Command(Command::Abor) => {
                             control.wait(line);
-                            abort.notify_one();
-                            return Ok(aborted(timeout(ABORTING, running).await));
+                            return Ok(aborted(end_early(&abort, running).await));
                         }
                         Event::Command(Command::Stat { path: None }) if !control.has_waiting() => {
                             log(&line);
@@ -123,6 +129,15 @@ impl Session {
             count,
         }
     }
+}
+
+/// Tells a transfer to abort, and waits some time for its end: all that it has moved is counted then.
+async fn end_early(
+    abort: &Notify,
+    running: impl Future<Output = Result<(), Fault>>,
+) -> Result<Result<(), Fault>, Elapsed> {
+    abort.notify_one();
+    timeout(ABORTING, running).await
 }
 
 /// How a transfer ends after ABOR, where it ends in time: it may have been complete already.
