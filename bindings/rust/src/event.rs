@@ -110,8 +110,8 @@ impl Debug for Line<'_> {
 ///
 /// [`Error::Refused`](crate::Error::Refused) with [`Refusal::InvalidEol`] exactly where the
 /// parameter has no value: where it has no end, where a CR in it, other than its first byte, is
-/// followed by neither LF nor NUL, or where CR NUL is followed directly by LF. A command that ignores
-/// its parameter may come by such a line, as by `TYPE A\rb`. And
+/// followed by neither LF nor NUL, or where CR NUL is followed directly by LF. A command that
+/// ignores its parameter may come by such a line, as by `TYPE A\rb`. And
 /// [`Error::OutOfMemory`](crate::Error::OutOfMemory).
 pub fn parameter(line: &[u8]) -> Result<Vec<u8>, crate::Error> {
     written(line.len(), |out| ffi::parameter(line, out))

@@ -45,7 +45,7 @@ impl Lines {
         self.connection.skipping != 0
     }
 
-    /// Takes the first line of the pending bytes, and keeps of its event what this makes of it.
+    /// Takes the first line of the pending bytes, if it is complete. `keep` is given its event.
     // inlined, what it has taken is not moved
     #[inline]
     pub(crate) fn take<'a, E>(

@@ -44,9 +44,10 @@ impl Pending {
     ///
     /// [`Error::OutOfMemory`]; the pending bytes are then as before.
     pub fn push(&mut self, bytes: &[u8]) -> Result<(), Error> {
-        match self.used == self.received.len() {
-            true => self.received.clear(),
-            false => drop(self.received.drain(..self.used)),
+        if self.used == self.received.len() {
+            self.received.clear();
+        } else {
+            self.received.drain(..self.used);
         }
         (self.used, self.line) = (0, 0);
         self.received.try_reserve(bytes.len()).map_err(|_| Error::OutOfMemory)?;

@@ -456,8 +456,8 @@ impl Conversation {
         Ok(true)
     }
 
-    /// The exchange that a line begins. The log shows some lines without their parameters, as that of
-    /// HELP, and then without the texts of its replies.
+    /// The exchange that a line begins. Where the log line lacks the parameter, as that of HELP,
+    /// the log has no texts of the server's replies either.
     fn exchange(&self, line: &OwnedLine) -> Result<Exchange, End> {
         let shown = line.log_line()?;
         let has_parameter = line.parameter().map_or(true, |value| !value.is_empty());
