@@ -316,8 +316,8 @@ struct unftp_address {
  * UTF-8, with the letters a to z in upper case. The value is what the line has after it, without
  * the line's end: a CR that was sent as CR NUL, or as the parameter's first byte, is one CR. Values
  * are UTF-8, with U+FFFD for each ill-formed part, but those of USER, PASS, ACCT and STAT, which
- * are the bytes that were sent: unftp_parameter writes these of any line. At UNFTP_NO_ROOM the area
- * needs name_len + value_len bytes; a line of n bytes needs at most 3 n.
+ * are the bytes that were sent. unftp_parameter writes the bytes that were sent of any line. At
+ * UNFTP_NO_ROOM the area needs name_len + value_len bytes; a line of n bytes needs at most 3 n.
  *
  * A line of more bytes than the limit is UNFTP_LINE_TOO_LONG once it has ended, whatever it holds.
  * Where a longer line comes in pieces, its bytes are used up at UNFTP_MORE, so fewer than limit
@@ -335,8 +335,9 @@ enum unftp_result unftp_next(struct unftp_connection *connection,
 /*
  * Writes the value of a line's parameter to the start of out, and *len is how many bytes it has:
  * those that were sent, also bytes that are not UTF-8 or that a command ignores, without the line's
- * end. A CR that was sent as CR NUL (RFC 854), or as the parameter's first byte, is one CR. Pass
- * what unftp_next used up, but at UNFTP_LINE_TOO_LONG; which verb the line has is not looked at.
+ * end. A CR that was sent as CR NUL (RFC 854), or as the first byte before others than the line's
+ * end, is one CR. Pass what unftp_next used up, except at UNFTP_LINE_TOO_LONG. The verb is not
+ * looked at: the value of PASS is the password.
  *
  *     the line               unftp_parameter        unftp_list_path
  *     TYPE A                 A                      A
@@ -479,7 +480,8 @@ uint32_t unftp_is_clear(const char *line, size_t line_len) UNFTP_NONNULL;
 /*
  * Writes what a log shows of a client's line to the start of out, without a line end, and *len is
  * how many bytes it has. Each byte is printable ASCII. The number is what unftp_next returned, and
- * the line is what it used up; at UNFTP_LINE_TOO_LONG nothing of the line is looked at.
+ * the line is what it used up: its bytes are read as one line. At UNFTP_LINE_TOO_LONG nothing of
+ * the line is looked at.
  *
  *     the line                                    what is written
  *     xcwd a, BYE                                 CWD a, QUIT
@@ -494,12 +496,13 @@ uint32_t unftp_is_clear(const char *line, size_t line_len) UNFTP_NONNULL;
  * A command is its canonical verb, and after a space the value of the line's parameter as the bytes
  * that were sent, with what is not printable escaped as in Rust: \t, \r, \n, \', \", \\, or \x and
  * two digits; CR NUL is one CR. STRU, MODE, PROT, AUTH, OPTS, PBSZ and REST have the value that
- * unftp_next gives. SYST and HELP have none, nor have TYPE, EPSV and ALLO where the line end is
- * invalid, which they ignore. The value of PASS and ACCT is ***, also an empty one. A verb with no
- * rule of its own may be a mistyped PASS, or a password: it is ***. A word of the registry of FTP's
- * commands (RFC 5797, section 3), ALGS (RFC 6384) and HOST (RFC 7151) are shown, with *** for their
- * arguments, also where there are none. Of SITE the subcommands CHMOD, IDLE, MD5, UMASK and UTIME
- * are shown with their arguments, EXEC, GPASS, GROUP, HELP and PSWD with ***, and any other is ***.
+ * unftp_next gives. SYST and HELP have none; nor have TYPE, EPSV and ALLO where their line has an
+ * invalid end, at which they are commands too. The value of PASS and ACCT is ***, also an empty
+ * one. A verb with no rule of its own may be a mistyped PASS, or a password: it is ***, unless it
+ * is a word of the registry of FTP's commands (RFC 5797, section 3), ALGS (RFC 6384) or HOST (RFC
+ * 7151), with *** for its arguments, also where there are none. Of SITE the subcommands CHMOD,
+ * IDLE, MD5, UMASK and UTIME are shown with their arguments, EXEC, GPASS, GROUP, HELP and PSWD with
+ * ***, and any other is ***.
  * The name of USER and paths are shown, and so is a password that a client sends in their place, or
  * one that is itself a verb.
  *
@@ -511,9 +514,10 @@ uint32_t unftp_is_clear(const char *line, size_t line_len) UNFTP_NONNULL;
  *
  * It returns UNFTP_DONE; UNFTP_NO_ROOM, where *len is the room that is needed; or
  * UNFTP_OUT_OF_MEMORY. out is as it was but at UNFTP_DONE. A line of n bytes needs at most 4 n +
- * 42. Memory is taken only for the text that is written, and not for a command. A server that has no
- * such room must not drop the line, or a client could keep itself out of the log: it takes the room
- * that *len asks for, or logs that there was a line.
+ * 42. Memory is taken only for the text that is written, at most three times its bytes and 32; this
+ * is tested, and not proved. A server that has no such room must not drop the line, or a client
+ * could keep itself out of the log: it takes the room that *len asks for, or logs that there was a
+ * line.
  */
 enum unftp_result unftp_log_line(uint32_t number, const char *line, size_t line_len,
                                  char *out, size_t out_room, size_t *len) UNFTP_NONNULL;

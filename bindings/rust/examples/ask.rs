@@ -49,7 +49,14 @@ impl Display for AskError {
     }
 }
 
-impl Error for AskError {}
+impl Error for AskError {
+    fn source(&self) -> Option<&(dyn Error + 'static)> {
+        match self {
+            AskError::Codec(error) => error.source(),
+            _ => None,
+        }
+    }
+}
 
 impl From<CodecError> for AskError {
     fn from(error: CodecError) -> AskError {

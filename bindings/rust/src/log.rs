@@ -25,9 +25,9 @@ use crate::ffi;
 /// OPTS, PBSZ and REST have the value of their command, and SYST and HELP none. The value of PASS
 /// and ACCT is `***`, also an empty one.
 ///
-/// A verb with no rule of its own may be a mistyped PASS, or a password: it is `***`. A word of the
-/// registry of FTP's commands (RFC 5797, section 3), ALGS (RFC 6384) and HOST (RFC 7151) are shown,
-/// with `***` for their arguments, also where there are none. So it is with the subcommands of SITE,
+/// A verb with no rule of its own may be a mistyped PASS, or a password: it is `***`, unless it is a
+/// word of the registry of FTP's commands (RFC 5797, section 3), ALGS (RFC 6384) or HOST (RFC 7151),
+/// with `***` for its arguments, also where there are none. So it is with the subcommands of SITE,
 /// but that CHMOD, IDLE, MD5, UMASK and UTIME show their arguments. The name of USER and paths are
 /// shown, and so is a password that a client sends in their place, or one that is itself a verb.
 ///

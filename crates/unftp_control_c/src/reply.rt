@@ -84,7 +84,7 @@ fn write_lines(code: u32, text: &[u8], area: &mut [u8], len: &mut usize) -> u32
 }
 
 /// Writes the reply of the text's lines to the start of the area, where it has room for it, and its
-/// length to `len`. Without room it only counts.
+/// length to `len`. Without room a part of it may be written; an empty area serves to count.
 fn put_lines(code: u32, text: &[u8], area: &mut [u8], len: &mut usize)
     requires { ¬ Lacks LF text.now }
     ensures { HasText area.old (encoded (MultiLine code (text_lines text.now))) area.new len.new }

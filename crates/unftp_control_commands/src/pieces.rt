@@ -52,8 +52,8 @@ fn overwrite_at(at: usize, piece: &[u8], area: &mut [u8])
 }
 
 /// Writes a piece of a text after those before it, where the area has room for it, and adds its
-/// length to theirs. A length of more than `usize::MAX` is counted as `usize::MAX`. An area without
-/// room only counts.
+/// length to theirs: more than `usize::MAX` is counted as `usize::MAX`. What is in an area that
+/// lacks room for the whole text is not said; an empty one serves to count.
 pub fn put(piece: &[u8], area: &mut [u8], len: &mut usize)
     ensures { (start text : Bytes) → HasText start text area.old len.old
         → HasText start (text ++ piece.now) area.new len.new }

@@ -36,8 +36,8 @@ pub fn quoted_bytes(alloc: Global, path: &[u8]) -> Result<Vec<u8>, ControlChanEr
 }
 
 /// Writes the path between double quotes, with each double quote in it doubled, to the start of the
-/// area, where it has room for all of it, and its length to `len`. Without room it only counts: a
-/// length of more than `usize::MAX` as `usize::MAX`.
+/// area, where it has room for all of it, and its length to `len`: more than `usize::MAX` as
+/// `usize::MAX`. Without room any part of it may be written; an empty area serves to count.
 pub fn write_quoted(path: &[u8], area: &mut [u8], len: &mut usize)
     ensures { HasText area.old (quoted path.now) area.new len.new }
 {

@@ -16,8 +16,11 @@ use std::io::{Read, Write};
 use unftp_control_serve::{Input, Output, ServeError, Served, Session, serve_with_limit};
 
 /// Serves a connection behind a login (RFC 959, section 4.1.1): `serve_with_limit` with a `Gate`
-/// before the handler, which is any `Session`. What needs a login reaches the handler only after a
-/// name and a password that the accounts accept. Accounts and handler are dropped at the end.
+/// before the handler, which is any `Session`. To a command that needs a login a client reads a
+/// reply that reports no failure only after a name and a password that the accounts accept.
+///
+/// Accounts and handler are dropped at the end, and nothing is said of them then: a server that
+/// needs their last state, or what they were asked, serves its own `Gate`.
 ///
 /// A line may have `line_limit` bytes, its line feed counted, and a longer one gets one refusal. As
 /// many logins as `failed_logins` may fail: the last of them is answered 421, and ends the session.

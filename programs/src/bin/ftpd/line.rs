@@ -1,6 +1,6 @@
 //! What the bytes of a line have beside its command.
 use crate::replies;
-use unftp_control::{parameter as value_of, OwnedLine, Reply};
+use unftp_control::{OwnedLine, Reply};
 
 /// The value of the line's parameter: a name as it was sent, where the text of a command has U+FFFD
 /// for what is not UTF-8.
@@ -16,7 +16,7 @@ pub fn list_path(line: &OwnedLine) -> Result<Vec<u8>, Reply> {
 /// The value of the parameter of a subcommand of SITE.
 pub fn subcommand_parameter(line: &OwnedLine) -> Result<Vec<u8>, Reply> {
     let after_site = line.bytes.get(b"SITE ".len()..).unwrap_or_default();
-    value_of(after_site).map_err(replies::of_line_error)
+    unftp_control::parameter(after_site).map_err(replies::of_line_error)
 }
 
 /// With CR NUL for each CR, as a reply has a name (RFC 854).
