@@ -409,11 +409,11 @@ enum unftp_result unftp_front_reply(const char *bytes, size_t bytes_len,
                                     struct unftp_found_reply *reply) UNFTP_NONNULL;
 
 /*
- * Writes the lines of the reply at the start of what a client has received to the start of out, each
- * with a CR LF after it, and *len is how many bytes they are (RFC 959, section 4.2). No line has a
- * CR LF in it. Of the first line and the last it is the text after the code and the one byte that
- * follows it, and of a line between them all of it; a reply of only a code has one empty line. It
- * returns UNFTP_DONE; UNFTP_MORE or UNFTP_MALFORMED, as unftp_front_reply; UNFTP_NO_ROOM, where
+ * Writes the lines of the reply at the start of what a client has received to the start of out,
+ * each with a CR LF after it, and *len is how many bytes they are (RFC 959, section 4.2). No line
+ * has a CR LF in it. Of the first line and the last it is the text after the code and the one byte
+ * that follows it, and of a line between them all of it; a reply of only a code has one empty line.
+ * It returns UNFTP_DONE; UNFTP_MORE or UNFTP_MALFORMED, as unftp_front_reply; UNFTP_NO_ROOM, where
  * *len is the room that is needed, at most as many bytes as the reply has; or UNFTP_OUT_OF_MEMORY.
  * out is as it was but at UNFTP_DONE.
  */
