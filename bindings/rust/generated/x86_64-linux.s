@@ -4,7 +4,7 @@
  *
  * made by: tools/generated --write
  * toolchain: rattle-kit-13f logic dac8208d650f15bf
- * sources: sha256 4c6552ba67203b8256d1b344acd72c50c244a8a006b5139398fe3f6f9d19e820
+ * sources: sha256 b300bdc4ef7794b2181a672580b43862cd043b71b9325c69ae4ab90183714a21
  */
 	.section	.rodata.cst16,"aM",@progbits,16
 	.p2align	4, 0x0
