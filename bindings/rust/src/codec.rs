@@ -73,9 +73,10 @@ impl Decoder for FtpCodec {
     type Error = CodecError;
 
     fn decode(&mut self, src: &mut BytesMut) -> Result<Option<Event<'static>>, CodecError> {
-        let taken = self.lines.take(src, Event::into_owned)?;
-        src.advance(taken.used);
-        Ok(taken.event)
+        if self.lines.passes_over_few(src) {
+            return Ok(None);
+        }
+        decode_by_call(&mut self.lines, src)
     }
 
     fn decode_eof(&mut self, src: &mut BytesMut) -> Result<Option<Event<'static>>, CodecError> {
@@ -84,6 +85,17 @@ impl Decoder for FtpCodec {
             event => Ok(event),
         }
     }
+}
+
+// a function of its own, so that few bytes without a line feed make no room for an event
+#[inline(never)]
+fn decode_by_call(
+    lines: &mut Lines,
+    src: &mut BytesMut,
+) -> Result<Option<Event<'static>>, CodecError> {
+    let taken = lines.take(src, Event::into_owned)?;
+    src.advance(taken.used);
+    Ok(taken.event)
 }
 
 /// Of `Reply` only, so that `flush` and `close` of a sink need no type. A

@@ -103,12 +103,10 @@ impl Decoder for FtpLineCodec {
     type Error = CodecError;
 
     fn decode(&mut self, src: &mut BytesMut) -> Result<Option<OwnedLine>, CodecError> {
-        let taken = self.lines.take(src, Event::into_owned)?;
-        let bytes = src.split_to(taken.used).freeze();
-        Ok(taken.event.map(|event| match event {
-            Event::Refused(Refusal::LineTooLong) => OwnedLine { event, bytes: Bytes::new() },
-            event => OwnedLine { event, bytes },
-        }))
+        if self.lines.passes_over_few(src) {
+            return Ok(None);
+        }
+        decode_by_call(&mut self.lines, src)
     }
 
     fn decode_eof(&mut self, src: &mut BytesMut) -> Result<Option<OwnedLine>, CodecError> {
@@ -117,6 +115,17 @@ impl Decoder for FtpLineCodec {
             line => Ok(line),
         }
     }
+}
+
+// a function of its own, so that few bytes without a line feed make no room for a line
+#[inline(never)]
+fn decode_by_call(lines: &mut Lines, src: &mut BytesMut) -> Result<Option<OwnedLine>, CodecError> {
+    let taken = lines.take(src, Event::into_owned)?;
+    let bytes = src.split_to(taken.used).freeze();
+    Ok(taken.event.map(|event| match event {
+        Event::Refused(Refusal::LineTooLong) => OwnedLine { event, bytes: Bytes::new() },
+        event => OwnedLine { event, bytes },
+    }))
 }
 
 /// As that of [`FtpCodec`](crate::FtpCodec).

@@ -12,6 +12,9 @@ pub const LINE_LIMIT: usize = 8192;
 /// How many bytes the area for a name and a value has at first.
 const AREA: usize = 512;
 
+/// Fewer new bytes than these are scanned for a line feed here. For so few a call costs more.
+const FEW: usize = 16;
+
 /// Takes the lines of a connection, whose pending bytes its owner keeps.
 #[derive(Clone)]
 pub(crate) struct Lines {
@@ -45,7 +48,45 @@ impl Lines {
         self.connection.skipping != 0
     }
 
-    /// Takes the first line of the pending bytes, if it is complete. `keep` is given its event.
+    /// Whether nothing is to be taken yet, as is seen without a call of the library: few bytes have
+    /// come since the last one, and the first line is neither complete nor too long. The pending
+    /// bytes are then scanned.
+    #[inline]
+    pub(crate) fn passes_over(&mut self, pending: &[u8]) -> bool {
+        let ffi::Connection { limit, offset, skipping } = &mut self.connection;
+        if *offset > pending.len() {
+            // the owner has dropped bytes
+            *offset = 0;
+        }
+        let new = &pending[*offset..];
+        let passes = pending.is_empty()
+            || new.len() < FEW
+                // most often a line feed is the last byte
+                && new.last() != Some(&b'\n')
+                && *skipping == 0
+                && (*limit == 0 || pending.len() < *limit)
+                && !new.contains(&b'\n');
+        if passes {
+            *offset = pending.len();
+        }
+        passes
+    }
+
+    /// As `passes_over`, for an owner of many bytes, to which it is one comparison.
+    #[cfg(feature = "tokio-util")]
+    #[inline]
+    pub(crate) fn passes_over_few(&mut self, pending: &[u8]) -> bool {
+        pending.len() < self.connection.offset + FEW && self.passes_over_apart(pending)
+    }
+
+    #[cfg(feature = "tokio-util")]
+    #[inline(never)]
+    fn passes_over_apart(&mut self, pending: &[u8]) -> bool {
+        self.passes_over(pending)
+    }
+
+    /// Takes the first line of the pending bytes, if it is complete, where `passes_over` is false.
+    /// `keep` is given its event.
     // inlined, what it has taken is not moved
     #[inline]
     pub(crate) fn take<'a, E>(
@@ -53,10 +94,6 @@ impl Lines {
         pending: &[u8],
         keep: impl FnOnce(Event<'a>) -> E,
     ) -> Result<Taken<E>, Error> {
-        if self.connection.offset > pending.len() {
-            // the owner has dropped bytes
-            self.connection.offset = 0;
-        }
         if pending.is_empty() {
             return Ok(Taken { used: 0, event: None });
         }
@@ -98,18 +135,64 @@ impl Debug for Lines {
 mod tests {
     use super::*;
 
+    /// Takes a line as the owners of `Lines` do.
+    fn take(lines: &mut Lines, pending: &[u8]) -> Result<Taken<()>, Error> {
+        if lines.passes_over(pending) {
+            return Ok(Taken { used: 0, event: None });
+        }
+        lines.take(pending, drop)
+    }
+
     #[test]
     fn no_byte_is_scanned_again() -> Result<(), Error> {
         let mut lines = Lines::new(0);
         let mut pending = Vec::new();
         for count in 1..=100 {
             pending.push(b'a');
-            assert_eq!(lines.take(&pending, drop)?.used, 0);
+            assert_eq!(take(&mut lines, &pending)?.used, 0);
             assert_eq!(lines.connection.offset, count);
         }
         pending.push(b'\n');
-        assert_eq!(lines.take(&pending, drop)?.used, 101);
+        assert_eq!(take(&mut lines, &pending)?.used, 101);
         assert_eq!(lines.connection.offset, 0);
+        Ok(())
+    }
+
+    /// Pushes the input in pieces of this size, and takes the lines after each. The library is
+    /// called beside it each time, and has to leave the same.
+    fn takes_as_the_library(limit: usize, input: &[u8], size: usize) -> Result<(), Error> {
+        let (mut lines, mut beside) = (Lines::new(limit), Lines::new(limit).connection);
+        let (mut pending, mut area) = (Vec::new(), [0; 512]);
+        for piece in input.chunks(size) {
+            pending.extend_from_slice(piece);
+            loop {
+                let taken = take(&mut lines, &pending)?;
+                let used = match &pending[..] {
+                    [] => 0,
+                    pending => ffi::next(&mut beside, pending, &mut area).1.used,
+                };
+                assert_eq!(taken.used, used);
+                assert_eq!(lines.connection.offset, beside.offset);
+                assert_eq!(lines.connection.skipping, beside.skipping);
+                pending.drain(..used);
+                if taken.event.is_none() {
+                    break;
+                }
+            }
+            assert!(limit == 0 || pending.len() < limit);
+        }
+        Ok(())
+    }
+
+    #[test]
+    fn few_new_bytes_are_taken_as_the_library_takes_them() -> Result<(), Error> {
+        let long = format!("RETR {}\r\n", "a".repeat(40));
+        let input = ["NOOP\r\n", &long, "\n\r\nSTOR b\r\nx", &long, &long, "QUIT\r\nUSER"].concat();
+        for limit in [0, 1, 2, 6, 7, 15, 16, 17, 46, 47, 48, 100] {
+            for size in [1, 2, 7, 15, 16, 17, 200] {
+                takes_as_the_library(limit, input.as_bytes(), size)?;
+            }
+        }
         Ok(())
     }
 
@@ -118,7 +201,7 @@ mod tests {
         let mut lines = Lines::new(0);
         for (path, area) in [(5, AREA), (4000, 4007), (100_000, 100_004), (5, 100_004)] {
             let line = format!("RETR {}\r\n", "a".repeat(path));
-            assert_eq!(lines.take(line.as_bytes(), drop)?.used, path + 7);
+            assert_eq!(take(&mut lines, line.as_bytes())?.used, path + 7);
             assert_eq!(lines.area.len(), area);
         }
         Ok(())
@@ -127,9 +210,9 @@ mod tests {
     #[test]
     fn no_bytes_are_the_start_of_a_line() -> Result<(), Error> {
         let mut lines = Lines::new(0);
-        assert_eq!(lines.take(b"AUTH", drop)?.used, 0);
-        assert_eq!(lines.take(b"", drop)?.used, 0);
-        assert_eq!(lines.take(b"\r\nNOOP\r\n", drop)?.used, 2);
+        assert_eq!(take(&mut lines, b"AUTH")?.used, 0);
+        assert_eq!(take(&mut lines, b"")?.used, 0);
+        assert_eq!(take(&mut lines, b"\r\nNOOP\r\n")?.used, 2);
         Ok(())
     }
 }

@@ -46,7 +46,7 @@ impl Pending {
     pub fn push(&mut self, bytes: &[u8]) -> Result<(), Error> {
         if self.used == self.received.len() {
             self.received.clear();
-        } else {
+        } else if self.used > 0 {
             self.received.drain(..self.used);
         }
         (self.used, self.line) = (0, 0);
@@ -116,6 +116,7 @@ impl Pending {
 
 /// Takes the first line of the bytes that are not used up. Then `line` is how many bytes at the end of
 /// the used ones are that line: none where it is too long.
+#[inline]
 fn take_line<'a>(
     lines: &'a mut Lines,
     received: &[u8],
@@ -123,6 +124,20 @@ fn take_line<'a>(
     line: &mut usize,
 ) -> Result<Option<Event<'a>>, Error> {
     *line = 0;
+    if lines.passes_over(&received[*used..]) {
+        return Ok(None);
+    }
+    take_line_by_call(lines, received, used, line)
+}
+
+// a function of its own, so that few bytes without a line feed make no room for an event
+#[inline(never)]
+fn take_line_by_call<'a>(
+    lines: &'a mut Lines,
+    received: &[u8],
+    used: &mut usize,
+    line: &mut usize,
+) -> Result<Option<Event<'a>>, Error> {
     let taken = lines.take(&received[*used..], |event| event)?;
     *used += taken.used;
     if !matches!(taken.event, None | Some(Event::Refused(Refusal::LineTooLong))) {

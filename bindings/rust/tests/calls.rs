@@ -62,6 +62,35 @@ fn a_line_over_the_limit_is_refused() -> Result<(), Error> {
     Ok(())
 }
 
+/// The events of an input that comes in pieces of this size. At most `limit` bytes stay pending.
+fn events_of_pieces(limit: usize, input: &[u8], size: usize) -> Result<Vec<Event<'static>>, Error> {
+    let mut pending = Pending::with_limit(limit);
+    let mut events = Vec::new();
+    for piece in input.chunks(size) {
+        pending.push(piece)?;
+        while let Some(event) = pending.next_event()? {
+            events.push(event.into_owned());
+        }
+        assert!(limit == 0 || pending.bytes().len() <= limit);
+    }
+    Ok(events)
+}
+
+#[test]
+fn pieces_of_any_size_give_the_same_events() -> Result<(), Error> {
+    let retr = format!("RETR {}\r\n", "a".repeat(5000));
+    let lines = ["USER a\r\n", &retr, "NOOP\n\r\n", &retr, &retr, "STOR b\0\r\nPWD \r\n", "QUIT"];
+    let input = lines.concat();
+    for limit in [0, 1, 6, 7, 16, 17, 5006, 5007, LINE_LIMIT] {
+        let whole = events_of_pieces(limit, input.as_bytes(), input.len())?;
+        for size in [1, 2, 7, 15, 16, 4096] {
+            let events = events_of_pieces(limit, input.as_bytes(), size)?;
+            assert_eq!(events, whole, "{limit} by {size}");
+        }
+    }
+    Ok(())
+}
+
 #[test]
 fn there_is_a_limit_where_none_is_named() -> Result<(), Error> {
     for (len, is_long) in [(LINE_LIMIT, false), (LINE_LIMIT + 1, true)] {

@@ -5,8 +5,8 @@ use Rattle.std.specs.Str.Lines.{strip_carriage_return}
 use Rattle.std.specs.List.{AllByRecursion, join_with_byte, slice_split, onto_first}
 use Rattle.std.proofs.lemmas.Bool.{and_parts, cond_both, eqb-false, le-leb, leb-true}
 use Rattle.std.proofs.lemmas.List.Splits.{join_with_byte-slice_split, length-slice_split}
-use Rattle.unftp_control_defs.specs.Bytes.{Bytes, LF, CR, DASH, SP, Lacks, crlf}
-use Rattle.unftp_control_defs.specs.FtpReply.{FtpReply, CodeAndMsg, MultiLine, IsPlain, encoded, lines_after_code, padded}
+use Rattle.unftp_control_defs.specs.Bytes.{Bytes, LF, CR, DASH, Lacks}
+use Rattle.unftp_control_defs.specs.FtpReply.{FtpReply, CodeAndMsg, MultiLine, IsPlain, encoded, lines_after_code, spaced_line}
 use Rattle.unftp_control_defs.specs.ReplyReader.{ReadsBack}
 use Rattle.unftp_control_defs.proofs.LackLemmas.{Lacks-take}
 use Rattle.unftp_control_codecs.specs.Encoding.{padded_line}
@@ -105,13 +105,6 @@ opened code text {digits} is several =
     (λ lines. decimal code ++ DASH ∷ rest_of code lines ≡ encoded (MultiLine code lines))
     (λ _ _ _. refl)
 
-pub padded_piece : (text padding line : Bytes) → padded line ≡ padding ++ line
-    → ((text ++ padding) ++ line) ++ crlf ≡ text ++ padded_line line
-padded_piece text padding line is =
-    append_assoc (text ++ padding) line crlf ∙ append_assoc text padding (line ++ crlf)
-    ∙ ap (λ more. text ++ more) (sym (append_assoc padding line crlf)
-    ∙ ap (λ found. found ++ crlf) (sym is))
-
 -- the bytes so far, and the lines that follow
 pub line_written : (code : ℕ) (so_far rest line after : Bytes) {whole stripped : Bytes}
     → rest ≡ line ++ LF ∷ after → Lacks LF line → stripped ≡ strip_carriage_return line
@@ -128,12 +121,10 @@ line_written code so_far rest line after {stripped = stripped} cut one is whole 
 
 pub last_written : (code : ℕ) (so_far rest : Bytes) {whole digits : Bytes}
     → digits ≡ decimal code → Lacks LF rest → so_far ++ rest_of code (text_lines rest) ≡ whole
-    → (((so_far ++ digits) ++ SP ∷ []) ++ rest) ++ crlf ≡ whole
+    → (so_far ++ digits) ++ spaced_line rest ≡ whole
 last_written code so_far rest {digits = digits} is one whole =
-    append_assoc ((so_far ++ digits) ++ SP ∷ []) rest crlf
-    ∙ append_assoc (so_far ++ digits) (SP ∷ []) (rest ++ crlf)
-    ∙ append_assoc so_far digits (SP ∷ (rest ++ crlf))
-    ∙ ap (λ digits. so_far ++ (digits ++ SP ∷ (rest ++ crlf))) is
+    append_assoc so_far digits (spaced_line rest)
+    ∙ ap (λ digits. so_far ++ (digits ++ spaced_line rest)) is
     ∙ ap (λ t. so_far ++ t) (sym (ap (rest_of code) (last_line rest one))) ∙ whole
 
 -- ---- the bytes, or why there are none

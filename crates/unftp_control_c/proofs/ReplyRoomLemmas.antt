@@ -6,6 +6,7 @@ use Rattle.std.specs.Str.Lines.{strip_carriage_return}
 use Rattle.std.proofs.lemmas.Bool.{cond_both}
 use Rattle.std.proofs.lemmas.Fmt.{length-decimal-le}
 use Rattle.std.proofs.lemmas.List.{length-take}
+use Rattle.std.proofs.lemmas.List.Sums.{count_by-le-length}
 use Rattle.std.proofs.lemmas.List.Splits.{join_with_byte-slice_split, length-slice_split}
 use Rattle.unftp_control_defs.specs.Bytes.{Bytes, LF, SP, DASH, Lacks, crlf}
 use Rattle.unftp_control_defs.specs.FtpReply.{CodeAndMsg, MultiLine, encoded, lines_after_code, padded, spaced_line}
@@ -14,9 +15,9 @@ use Rattle.unftp_control_codecs.specs.ReplyCodes.{IsReplyCode}
 use Rattle.unftp_control_commands.specs.ReplyTexts.{QUOTE, doubled, quoted}
 use Rattle.unftp_control_c.specs.declared.status.Status.TheVariants.{UnknownCode}
 use Rattle.unftp_control_c.specs.Areas.{Made, filled, written}
-use Rattle.unftp_control_c.specs.Replies.{parts_as_lines, reply_bytes, reply_of_lines, text_reply}
+use Rattle.unftp_control_c.specs.Replies.{parts_as_lines, reply_bytes, reply_of_lines, text_lines, text_reply}
 use Rattle.unftp_control_c.proofs.AreaLemmas.{filled_length}
-use Rattle.unftp_control_c.proofs.ReplyLemmas.{code_is, one_reply}
+use Rattle.unftp_control_c.proofs.ReplyLemmas.{code_is, one_reply, several_reply}
 
 stripped_length : (line : Bytes) → length (strip_carriage_return line) ≤ length line
 stripped_length line = grind (arith, length-take (length line - 1) line)
@@ -110,6 +111,16 @@ module _ (code : ℕ) (is_code : IsReplyCode code) where
       let whole = rw (join_with_byte-slice_split LF text) at
       (parts_reply (slice_split (λ b. b == LF) text) (omega (arith, count))) in
       omega (arith, count, whole)
+
+-- of several lines, by the text's length alone
+pub lines_room : (code : ℕ) (text : Bytes) → IsReplyCode code → ¬ Lacks LF text
+    → length (encoded (MultiLine code (text_lines text))) ≤ 3 * length text + 10
+lines_room code text is several = omega (
+  arith,
+  ap (λ reply. length (encoded reply)) (several_reply code text several),
+  reply_length code is text,
+  count_by-le-length is_line_feed text,
+)
 
 pub reply_room : (code : ℕ) (text out : Bytes)
     → ((written (reply_bytes code text) out).text_length

@@ -1,7 +1,7 @@
 //! The next event of the pending bytes.
-ghost use Rattle.std.specs.Prelude.{◌≡◌, true, false, length};
+ghost use Rattle.std.specs.Prelude.{◌≡◌, IsTrue, [], true, false, length};
 ghost use Rattle.unftp_control_defs.specs.Bytes.{Bytes};
-ghost use Rattle.unftp_control_defs.specs.FtpCommand.{Outcome};
+ghost use Rattle.unftp_control_defs.specs.FtpCommand.{Nothing, Outcome};
 ghost use Rattle.unftp_control_defs.specs.Said.{IsSaid};
 ghost use Rattle.unftp_control_message.specs.PartsMeaning.{AreInPlace, IsInPlace, said_of, spelled};
 ghost use Rattle.unftp_control_c.specs.Next.{GivesCommand, Leaves, LeavesLine, call_with, codec_of, given_of, gives, is_valid, left_with, meant, no_lengths, resumed, scans, used_up};
@@ -13,7 +13,7 @@ use unftp_control_codecs::line_parser::parts;
 use unftp_control_codecs::{FirstLine, FtpCodec};
 use unftp_control_commands::pieces::overwrite_both;
 use unftp_control_message::Command;
-use unftp_control_message::parts::Parts;
+use unftp_control_message::parts::{Parts, Value, Verb};
 
 /// What a caller keeps of a connection: `struct unftp_connection` of include/unftp_control.h.
 #[repr(C)]
@@ -179,11 +179,35 @@ fn give_command(
         → (pending : Bytes) → GivesCommand (call_with connection.old pending area.old) taken
         answer (AreInPlace parts.entry) (left_with result connection.new area.new line.new) }
 {
+    if is_word(&parts) {
+        return give(given_for_word(parts.verb), taken, connection, area, line);
+    }
     if !parts.are_in_place() {
         return give_made(alloc, parts, taken, connection, area, line);
     }
     let mut digits = Buffer::new();
     give(given_for(parts, &mut digits), taken, connection, area, line)
+}
+
+/// Whether the parts have neither a name nor a value, so that their verb says all.
+#[inline(always)]
+fn is_word(parts: &Parts<'_>) -> bool
+    ensures { IsTrue result → spelled parts.now
+        ≡ record { verb = parts.now.verb; name = []; value = Nothing } }
+{
+    matches!(parts.value, Value::None) && parts.name.is_empty()
+}
+
+/// What a caller is given for a verb without a name and a value.
+#[inline(always)]
+fn given_for_word(verb: Verb) -> Given<'static>
+    ensures { meant result ≡ given_of (record { verb = verb; name = []; value = Nothing }) }
+{
+    Given {
+        number: verb.number(),
+        name: verb.word().as_bytes(),
+        value: &[],
+    }
 }
 
 /// Gives the command that is made of parts, for the memory that it takes. It is for those that are

@@ -1,8 +1,8 @@
 //! Replies: one that is written, and the first of those that were received.
-ghost use Rattle.std.specs.Prelude.{◌≡◌, ◌↔◌, ◌≤◌, ◌==◌, ℕ, [], ◌∷◌, ◌++◌, if◌then◌else◌, length, take, List, IsTrue};
+ghost use Rattle.std.specs.Prelude.{◌≡◌, ◌↔◌, ◌≤◌, ◌+◌, ◌*◌, ◌==◌, ℕ, [], ◌∷◌, ◌++◌, if◌then◌else◌, length, take, List, IsTrue};
 ghost use Rattle.std.specs.Str.Lines.{strip_carriage_return};
 ghost use Rattle.unftp_control_defs.specs.Bytes.{Bytes, LF, Lacks, crlf};
-ghost use Rattle.unftp_control_defs.specs.FtpReply.{CodeAndMsg, MultiLine, encoded, padded, spaced_line};
+ghost use Rattle.unftp_control_defs.specs.FtpReply.{CodeAndMsg, MultiLine, encoded, spaced_line};
 ghost use Rattle.unftp_control_defs.specs.ReplyReader.{FrontReply, IsMalformed, IsPartial, ReadsBack};
 ghost use Rattle.unftp_control_codecs.specs.Encoding.{padded_line};
 ghost use Rattle.unftp_control_commands.specs.Areas.{HasText};
@@ -35,7 +35,30 @@ pub extern "C" fn unftp_reply(code: u32, text: &[u8], out: &mut [u8], len: &mut 
     if is_one_line(text) {
         return write_line(code, text, out, len);
     }
+    if surely_fit(text.len(), out.len()) {
+        return write_fitting_lines(code, text, out, len);
+    }
     write_lines(code, text, out, len)
+}
+
+/// Whether an area of so many bytes surely has room for the reply of lines: a byte of their text
+/// takes three at most, and the two codes take ten with what is around them.
+fn surely_fit(text_len: usize, area_len: usize) -> bool
+    ensures { IsTrue result → 3 * text_len + 10 ≤ area_len }
+{
+    10 <= area_len && text_len <= (area_len - 10) / 3
+}
+
+/// Writes the reply of the text's lines to the start of the area, which has room for it, and
+/// reports how long it is.
+fn write_fitting_lines(code: u32, text: &[u8], area: &mut [u8], len: &mut usize) -> u32
+    requires lines { ¬ Lacks LF text.now }
+    requires room { length (encoded (MultiLine code (text_lines text.now))) ≤ length area.old }
+    ensures { record { result = result; area = area.new; text_length = len.new }
+        ≡ filled (encoded (MultiLine code (text_lines text.now))) area.old }
+{
+    put_lines(code, text, area, len);
+    Status::Done.number()
 }
 
 /// Writes the reply of one line to the start of the area, where it has room for it, and reports how
@@ -79,8 +102,7 @@ fn write_lines(code: u32, text: &[u8], area: &mut [u8], len: &mut usize) -> u32
     if *len > area.len() {
         return Status::NoRoom.number();
     }
-    put_lines(code, text, area, len);
-    Status::Done.number()
+    write_fitting_lines(code, text, area, len)
 }
 
 /// Writes the reply of the text's lines to the start of the area, where it has room for it, and its
@@ -100,9 +122,7 @@ fn put_lines(code: u32, text: &[u8], area: &mut [u8], len: &mut usize)
         rest = after;
     }
     put(digits, area, len);
-    put(b" ", area, len);
-    put(rest, area, len);
-    put(b"\r\n", area, len);
+    put_spaced(rest, area, len);
 }
 
 /// Writes a line before the last, with its end, after what is in the area.
@@ -110,16 +130,28 @@ fn put_padded(line: &[u8], area: &mut [u8], len: &mut usize)
     ensures { (start text : Bytes) → HasText start text area.old len.old
         → HasText start (text ++ padded_line line.now) area.new len.new }
 {
-    put(padding(line), area, len);
-    put(line, area, len);
-    put(b"\r\n", area, len);
+    if begins_with_digit(line) {
+        return put_spaced(line, area, len);
+    }
+    put_ended(line, area, len);
 }
 
-/// The space before a line that begins with a digit, or nothing before any other.
-fn padding(line: &[u8]) -> &'static [u8]
-    ensures { padded line.now ≡ result.now ++ line.now }
+/// Writes a space, a line and its end after what is in the area.
+fn put_spaced(line: &[u8], area: &mut [u8], len: &mut usize)
+    ensures { (start text : Bytes) → HasText start text area.old len.old
+        → HasText start (text ++ spaced_line line.now) area.new len.new }
 {
-    if begins_with_digit(line) { b" " } else { b"" }
+    put(b" ", area, len);
+    put_ended(line, area, len);
+}
+
+/// Writes a line and its end after what is in the area.
+fn put_ended(line: &[u8], area: &mut [u8], len: &mut usize)
+    ensures { (start text : Bytes) → HasText start text area.old len.old
+        → HasText start (text ++ (line.now ++ crlf)) area.new len.new }
+{
+    put(line, area, len);
+    put(b"\r\n", area, len);
 }
 
 /// A line before a line feed, without the carriage return that belongs to the line's end.

@@ -1,9 +1,13 @@
 -- What a search for a line feed finds.
-use Rattle.std.proofs.Common.{◌≡◌, ◌≢◌, ℕ, zero, suc, ◌+◌, ◌<◌, ◌≤◌, Bool, true, false, [], ◌∷◌, ◌++◌, ◌⊎◌, length, take, drop, Option, Some, None, refl, sym, ap, ◌∙◌, inl, inr, arith, eq-eqb, ne_eqb}
-use Rattle.std.specs.Prelude.{MatchOption, if◌then◌else◌, slice_index, position, option_map, ◌||◌}
+use Rattle.std.proofs.Common.{◌≡◌, ◌≢◌, ℕ, zero, suc, ◌+◌, ◌-◌, ◌*◌, ◌%◌, ◌^◌, ◌<◌, ◌≤◌, Bool, true, false, not, cond, eqb, [], ◌∷◌, ◌++◌, ◌⊎◌, length, map, replicate, take, drop, w8, Option, Some, None, refl, sym, ap, ◌∙◌, inl, inr, arith, eq-eqb, ne_eqb}
+use Rattle.std.specs.Prelude.{if◌then◌else◌, slice_index, position, option_map, ◌||◌}
+use Rattle.std.specs.List.{prefix_len}
+use Rattle.std.specs.Simd.Lanes.{chunk, mask_l, top, zip2}
+use lib.Count.{count_trailing_zeros}
 use Rattle.std.proofs.lemmas.Bool.{cases_eq, lt-ltb, ltb-true}
 use Rattle.std.proofs.lemmas.Grind.{common_steps}
-use Rattle.std.proofs.lemmas.List.{drop_all, take_more}
+use Rattle.std.proofs.lemmas.List.{length-drop, take_all, take_more}
+use Rattle.std.proofs.lemmas.Simd.{bitmask_splat, length-chunk, none_from_empty_mask, run_in_chunk_fails, run_in_chunk_stops, trailing_mask_l}
 use Rattle.std.proofs.Math.Seq.{drop-cons}
 use Rattle.unftp_control_defs.specs.Bytes.{Bytes, LF, Lacks}
 use Rattle.unftp_control_defs.specs.Events.{exceeds}
@@ -70,7 +74,7 @@ pub lf_at : (bytes : Bytes) (k : ℕ) → k < length bytes → slice_index bytes
     → take (k + 1) bytes ≡ take k bytes ++ LF ∷ []
 lf_at bytes k within is = take_more bytes k 0 within ∙ ap (λ b. take k bytes ++ b ∷ []) is
 
--- ---- a search that goes byte by byte
+-- ---- a search that goes block by block
 
 module _ (bytes : Bytes) (from : ℕ) (within : from < length bytes) where
   step : (is : Bool) → is_line_feed (slice_index bytes from) ≡ is → line_feed_from bytes from
@@ -81,16 +85,65 @@ module _ (bytes : Bytes) (from : ℕ) (within : from < length bytes) where
       rw (drop-cons bytes from 0 within, position_cons, e, sym next)
       (passed from (position is_line_feed (drop (suc from) bytes)))
 
-  pub feed_here : slice_index bytes from ≡ LF → line_feed_from bytes from ≡ Some from
-  feed_here is = step true (eq-eqb (slice_index bytes from) LF is)
+-- whether a byte comes before the first line feed
+abbrev passes : ℕ → Bool
+passes byte = not (is_line_feed byte)
 
--- at the end there is none
-pub feed_found : (bytes : Bytes) (from end : ℕ) (o : Option ℕ) → end ≡ length bytes
-    → MatchOption o (line_feed_from bytes from ≡ line_feed_from bytes end)
-    (λ k. line_feed_from bytes from ≡ Some k) → o ≡ line_feed_from bytes from
-feed_found bytes from end None whole none =
-    sym (none ∙ rw (drop_all end bytes (omega (arith, whole))) refl)
-feed_found bytes from end (Some k) whole found = sym found
+first_lane : (is : Bool) (mask before n : ℕ) → 0 < cond is 1 0 + 2 * mask
+    → (0 < mask → before < n) → cond (not is) (1 + before) 0 < suc n
+first_lane true mask before n some later = omega arith
+first_lane false mask before n some later = omega (arith, later (omega (arith, some)))
+
+-- where a bit is set, not all bytes come before a line feed
+some_stops : (bytes : Bytes) → 0 < mask_l (map is_line_feed bytes)
+    → prefix_len passes bytes < length bytes
+some_stops [] some = absurd (omega (arith, some))
+some_stops (b ∷ bytes) some = first_lane (is_line_feed b) (mask_l (map is_line_feed bytes))
+    (prefix_len passes bytes) (length bytes) some (some_stops bytes)
+
+module _ (bytes : Bytes) (from : ℕ) where
+  passed_over : (n : ℕ) → from + n ≤ length bytes
+      → ((k : ℕ) → from ≤ k → k < from + n → is_line_feed (slice_index bytes k) ≡ false)
+      → line_feed_from bytes from ≡ line_feed_from bytes (from + n)
+  passed_over zero room none = ap (line_feed_from bytes) (omega arith)
+  passed_over (suc n) room none =
+      passed_over n (omega (arith, room)) (λ k low high. none k low (omega (arith, high)))
+      ∙ step bytes (from + n) (omega (arith, room)) false (none (from + n) (omega arith) (omega arith))
+      ∙ ap (line_feed_from bytes) (omega arith)
+
+  module _ (n : ℕ) (room : from + n ≤ length bytes) (few : n ≤ 64) where
+    -- a bit for each of n bytes, 1 where it is a line feed
+    abbrev found : ℕ
+    found = mask_l (map (top 7) (zip2 (λ a b. cond (eqb a b) 255 0)
+        (chunk 0 n (take (length bytes - from) (drop from bytes))) (replicate n LF))) % 2 ^ 64
+
+    found_is : found ≡ mask_l (map is_line_feed (chunk from n bytes))
+    found_is =
+        let whole = take_all (length bytes - from) (drop from bytes)
+        (omega (arith, length-drop from bytes)) in
+        ap (λ rest. mask_l (map (top 7) (zip2 (λ a b. cond (eqb a b) 255 0) (chunk 0 n rest)
+        (replicate n LF))) % 2 ^ 64) whole
+        ∙ bitmask_splat w8 eqb (chunk from n bytes) n LF (length-chunk from n bytes room) few
+
+    pub none_among : found ≡ 0 → line_feed_from bytes from ≡ line_feed_from bytes (from + n)
+    none_among none = passed_over n room
+        (none_from_empty_mask is_line_feed bytes from n 0 room (sym found_is ∙ none))
+
+    pub first_among : found ≢ 0
+        → line_feed_from bytes from ≡ Some (from + count_trailing_zeros 64 found)
+    first_among some =
+        let block = chunk from n bytes in
+        let long : length block ≡ n = length-chunk from n bytes room in
+        let set : 0 < mask_l (map is_line_feed block) = omega (arith, some, found_is) in
+        let before = count_trailing_zeros 64 found in
+        let counted : before ≡ prefix_len passes block =
+        ap (count_trailing_zeros 64) found_is
+        ∙ trailing_mask_l is_line_feed 64 block (omega (arith, long, few)) set in
+        let within : before < n = omega (arith, counted, long, some_stops block set) in
+        passed_over before (omega (arith, within, room))
+        (run_in_chunk_fails is_line_feed bytes from n before 0 room counted)
+        ∙ step bytes (from + before) (omega (arith, within, room)) true
+        (run_in_chunk_stops is_line_feed bytes from n before 0 room counted within)
 
 -- ---- of a limit
 

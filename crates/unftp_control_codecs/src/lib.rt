@@ -252,10 +252,12 @@ impl FtpCodec {
         } }
         ensures all { result ≡ if is_too_long self.old (length + 1) then length else 0 }
     {
-        self.skipping = self.is_too_long(length);
-        let dropped = if self.skipping { length } else { 0 };
-        self.place = length - dropped;
-        dropped
+        if !self.is_too_long(length) {
+            self.place = length;
+            return 0;
+        }
+        (self.place, self.skipping) = (0, true);
+        length
     }
 
     /// Takes the first line from the start of `buf` and returns its command, or `None` while no

@@ -1,14 +1,18 @@
-//! The one way by which the codec scans a byte for a line feed.
-ghost use Rattle.std.specs.Prelude.{◌≡◌, ◌+◌, ◌-◌, ◌<◌, ◌≤◌, length, slice_index, Some, MatchOption};
+//! The one way by which the codec scans bytes for a line feed.
+ghost use Rattle.std.specs.Prelude.{◌≡◌, ◌+◌, ◌-◌, ◌<◌, ◌≤◌, length, Some, MatchOption};
 ghost use Rattle.unftp_control_codecs.specs.LineFeed.{line_feed_from};
 
 use std::marker::Model;
+use std::simd::prelude::*;
 use unftp_control_defs::count::Count;
 
 const LINE_FEED: u8 = b'\n';
 
-/// How many bytes are scanned in a row: the compiler unrolls a loop over so many.
-const GROUP: usize = 8;
+/// How many bytes are scanned at once, while there are so many.
+const BLOCK: usize = 16;
+
+/// How many are, where fewer are left. Fewer than these are scanned byte by byte.
+const HALF_BLOCK: usize = 8;
 
 /// How many bytes were scanned, a number that only contracts see.
 #[derive(Drop)]
@@ -42,15 +46,15 @@ impl ScanCount {
     }
 
     #[inline(always)]
-    fn add_scanned(&mut self)
-        ensures { self.new ≡ self.old + 1 }
+    fn add_scanned(&mut self, count: usize)
+        ensures { self.new ≡ self.old + count }
     {
-        self.scanned.raise();
+        self.scanned.raise_by(count);
     }
 }
 
-/// A slice that is scanned byte by byte: it is private, and each byte read from it increments the
-/// count.
+/// A slice that is scanned for a line feed: it is private, and only `line_feed_among` reads its
+/// bytes and raises the count.
 #[derive(Drop)]
 pub(crate) struct Scan<'a, 'c> {
     bytes: &'a [u8],
@@ -67,20 +71,8 @@ impl<'a, 'c> Scan<'a, 'c> {
         Scan { bytes, tests }
     }
 
-    #[inline(always)]
-    fn byte_at(&mut self, at: usize) -> u8
-        requires { at < length self.old.bytes.now }
-        ensures byte { result ≡ slice_index self.old.bytes.now at }
-        ensures tests { self.new.tests.now ≡ self.old.tests.now + 1 }
-        ensures bytes { self.new.bytes.now ≡ self.old.bytes.now }
-        ensures same_reference { self.new.tests.ghost_name ≡ self.old.tests.ghost_name }
-    {
-        self.tests.add_scanned();
-        self.bytes[at]
-    }
-
-    /// The first line feed at or after `from`. Each byte from there to it, or to the end, is read
-    /// once.
+    /// The first line feed at or after `from`. Each byte from there to it, or to the end, is
+    /// scanned once.
     pub(crate) fn find_line_feed(&mut self, from: usize) -> Option<usize>
         requires { from ≤ length self.old.bytes.now }
         ensures found { result ≡ line_feed_from self.old.bytes.now from }
@@ -91,35 +83,70 @@ impl<'a, 'c> Scan<'a, 'c> {
         ensures same_reference { self.new.tests.ghost_name ≡ self.old.tests.ghost_name }
     {
         let mut at = from;
-        while self.bytes.len() - at >= GROUP {
-            if let Some(line_feed) = self.line_feed_among(at, GROUP) {
+        // tested first, so that a piece of a few bytes takes the least time
+        if self.bytes.len() - at < HALF_BLOCK {
+            return self.line_feed_by_bytes(at);
+        }
+        while at + BLOCK <= self.bytes.len() {
+            if let Some(line_feed) = self.line_feed_among::<BLOCK>(at) {
                 return Some(line_feed);
             }
-            at += GROUP;
+            at += BLOCK;
         }
-        self.line_feed_among(at, self.bytes.len() - at)
+        if self.bytes.len() - at < HALF_BLOCK {
+            return self.line_feed_by_bytes(at);
+        }
+        if let Some(line_feed) = self.line_feed_among::<HALF_BLOCK>(at) {
+            return Some(line_feed);
+        }
+        self.line_feed_by_bytes(at + HALF_BLOCK)
     }
 
-    /// The first line feed at or after `from`, if it is one of the next `count` bytes. Each of
-    /// these is read once, up to it.
+    /// The same, byte by byte.
     #[inline(always)]
-    fn line_feed_among(&mut self, from: usize, count: usize) -> Option<usize>
-        requires { from + count ≤ length self.old.bytes.now }
-        ensures found { MatchOption result
-            (line_feed_from self.old.bytes.now from
-            ≡ line_feed_from self.old.bytes.now (from + count))
-            (λ k. line_feed_from self.old.bytes.now from ≡ Some k) }
+    fn line_feed_by_bytes(&mut self, from: usize) -> Option<usize>
+        requires { from ≤ length self.old.bytes.now }
+        ensures found { result ≡ line_feed_from self.old.bytes.now from }
         ensures tests { MatchOption result
-            (self.new.tests.now ≡ self.old.tests.now + count)
+            (self.new.tests.now ≡ self.old.tests.now + (length self.old.bytes.now - from))
             (λ k. self.new.tests.now ≡ self.old.tests.now + (k + 1 - from)) }
         ensures bytes { self.new.bytes.now ≡ self.old.bytes.now }
         ensures same_reference { self.new.tests.ghost_name ≡ self.old.tests.ghost_name }
     {
-        for index in 0..count {
-            if self.byte_at(from + index) == LINE_FEED {
-                return Some(from + index);
+        let mut at = from;
+        while at < self.bytes.len() {
+            if let Some(line_feed) = self.line_feed_among::<1>(at) {
+                return Some(line_feed);
             }
+            at += 1;
         }
         None
+    }
+
+    /// The first line feed at or after `from`, if it is one of the next `N` bytes. These are read
+    /// at once, and count as scanned up to the line feed.
+    #[inline(always)]
+    fn line_feed_among<const N: usize>(&mut self, from: usize) -> Option<usize>
+        requires lanes { (0 < N) × (N ≤ 64) }
+        requires room { from + N ≤ length self.old.bytes.now }
+        ensures found { MatchOption result
+            (line_feed_from self.old.bytes.now from
+            ≡ line_feed_from self.old.bytes.now (from + N))
+            (λ k. line_feed_from self.old.bytes.now from ≡ Some k) }
+        ensures tests { MatchOption result
+            (self.new.tests.now ≡ self.old.tests.now + N)
+            (λ k. self.new.tests.now ≡ self.old.tests.now + (k + 1 - from)) }
+        ensures bytes { self.new.bytes.now ≡ self.old.bytes.now }
+        ensures same_reference { self.new.tests.ghost_name ≡ self.old.tests.ghost_name }
+    {
+        let block = Simd::<u8, N>::from_slice(&self.bytes[from..]);
+        let found = block.simd_eq(Simd::splat(LINE_FEED)).to_bitmask();
+        if found == 0 {
+            self.tests.add_scanned(N);
+            return None;
+        }
+        let before = found.trailing_zeros() as usize;
+        self.tests.add_scanned(before + 1);
+        Some(from + before)
     }
 }

@@ -1,5 +1,5 @@
 -- The words of the verbs, and how they are looked up.
-use Rattle.std.proofs.Common.{◌≡◌, ℕ, cond, option_map, is_some, Bool, true, false, bytes_eq, find, ◌==◌, ◌&&◌, ◌<◌, List, [], ◌∷◌, length, get_or, Some, None, refl, sym, ap, subst, ◌∙◌, ⊎_elim, arith, eq-eqb, eqb-true, w32}
+use Rattle.std.proofs.Common.{◌≡◌, ℕ, cond, option_map, is_some, Bool, true, false, bytes_eq, find, ◌==◌, ◌&&◌, ◌<◌, ◌≤◌, List, [], ◌∷◌, length, get_or, Some, None, refl, sym, ap, subst, ◌∙◌, ⊎_elim, arith, eq-eqb, eqb-true, w32}
 use lib.Pointwise.{bytes_decides}
 use Rattle.std.specs.Int.{from_be_bytes, to_be_bytes}
 use Rattle.std.specs.List.{list_all}
@@ -156,6 +156,17 @@ found_upper word w verb e found =
     let as_it_is : row_of word verbs ≡ Some verb =
     subst (λ x. row_of x verbs ≡ Some verb) (from_four_bytes_back word w e) found in
     ap (λ x. row_of x verbs) (verb_upper word verb as_it_is) ∙ as_it_is
+
+-- a word of four bytes needs no padding
+pub four_bytes : (word : Bytes) → 4 ≤ length word → length word < 5
+    → (get_or word 3 0 == 0) ≡ false → to_four_bytes word
+    ≡ Some (get_or word 0 0 ∷ get_or word 1 0 ∷ get_or word 2 0 ∷ get_or word 3 0 ∷ [])
+four_bytes (a ∷ b ∷ c ∷ d ∷ []) long short some = rw some refl
+four_bytes (a ∷ b ∷ c ∷ d ∷ e ∷ word) long short some = absurd (omega arith)
+four_bytes (a ∷ b ∷ c ∷ []) long short some = absurd (omega arith)
+four_bytes (a ∷ b ∷ []) long short some = absurd (omega arith)
+four_bytes (a ∷ []) long short some = absurd (omega arith)
+four_bytes [] long short some = absurd (omega arith)
 
 -- how a word is looked up
 pub ruleset words =

@@ -37,6 +37,7 @@ impl PendingBytes {
 
     /// Appends a piece. When out of memory, nothing changes; it is only where the buffer lacks room
     /// for the piece, so never for an empty one.
+    #[inline(always)]
     pub fn push(&mut self, piece: &[u8]) -> Result<(), AllocError>
         requires { IsTakenWithin self.old }
         ensures ok { OnOk result (pending_in self.new ≡ pending_in self.old ++ piece.now) }
@@ -83,6 +84,7 @@ impl PendingBytes {
 
 /// Appends the bytes, or none of them when out of memory: only where the buffer lacks room for
 /// them, so never where there are none.
+#[inline(always)]
 pub fn append(buf: &mut Vec<u8>, bytes: &[u8]) -> Result<(), AllocError>
     ensures ok { OnOk result (buf.new.items ≡ buf.old.items ++ bytes.now) }
     ensures err { OnErr result (buf.new.items ≡ buf.old.items) }
@@ -92,6 +94,8 @@ pub fn append(buf: &mut Vec<u8>, bytes: &[u8]) -> Result<(), AllocError>
 {
     match bytes {
         [] => Ok(()),
+        // without a call that copies
+        [byte] => Ok(buf.push(*byte)?),
         _ => buf.extend_from_slice(bytes),
     }
 }

@@ -1,5 +1,6 @@
 //! The verbs: their words, and what each takes as its parameter.
-ghost use Rattle.std.specs.Prelude.{◌≡◌, ◌↔◌, IsSome, IsTrue, false};
+ghost use Rattle.std.specs.Prelude.{◌≡◌, ◌↔◌, IsSome, IsTrue, Some, false};
+ghost use Rattle.unftp_control_defs.specs.Bytes.{Bytes};
 ghost use Rattle.unftp_control_defs.specs.FtpCommand.{kind, number, verbs, word};
 ghost use Rattle.unftp_control_defs.specs.Rules.{row_of};
 ghost use Rattle.unftp_control_defs.specs.Verbs.{upper};
@@ -294,18 +295,32 @@ fn may_have_lower_case(word: [u8; 4]) -> bool
     a >= b'a' || b >= b'a' || c >= b'a' || d >= b'a'
 }
 
+/// The verb of a word that is padded with NUL to four bytes, ignoring ASCII case, if it is one.
+#[inline(always)]
+#[tactic(auto, using(crate::proofs::WordLemmas::words))]
+fn padded_verb(padded: [u8; 4]) -> Option<Verb>
+    ensures { (word : Bytes) → to_four_bytes word ≡ Some padded
+        → result ≡ row_of (upper word) verbs }
+{
+    // clients send verbs in upper case
+    match verb_of(&padded) {
+        Some(verb) => Some(verb),
+        None if may_have_lower_case(padded) => verb_of(&upper_cased(padded)),
+        None => None,
+    }
+}
+
 /// The verb that a word is, ignoring ASCII case.
+// most verbs have four letters, which are read at once
 #[inline]
 #[tactic(auto, using(crate::proofs::WordLemmas::words))]
 pub fn verb_named(word: &[u8]) -> Option<Verb>
     ensures { result ≡ row_of (upper word.now) verbs }
 {
-    let word = to_four_bytes(word)?;
-    // clients send verbs in upper case
-    match verb_of(&word) {
-        Some(verb) => Some(verb),
-        None if may_have_lower_case(word) => verb_of(&upper_cased(word)),
-        None => None,
+    match word {
+        [a, b, c, d] if *d != 0 => padded_verb([*a, *b, *c, *d]),
+        [a, b, c] => padded_verb([*a, *b, *c, 0]),
+        _ => None,
     }
 }
 

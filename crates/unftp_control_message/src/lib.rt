@@ -66,6 +66,7 @@ pub mod parts;
 pub mod password;
 pub mod reply;
 pub mod sent;
+pub mod utf8;
 
 use crate::fields::owned;
 use bytes::Bytes;

@@ -3,10 +3,10 @@ ghost use Rattle.std.specs.Prelude.{◌≡◌, ◌≤◌, ◌==◌, ◌<◌, ◌
 ghost use Rattle.std.specs.Str.Lossy.{utf8_lossy};
 ghost use Rattle.unftp_control_message.specs.SentValues.{after_nul, begins_with_cr_nul, cr_nul_count, first_unit_len, four_cr_nul, sent_bytes, unescaped, sent_value};
 
+use crate::utf8::replaced;
 use bytes::Bytes;
 use memchr::memchr;
 use std::alloc::{AllocError, Global};
-use std::str::from_utf8;
 
 const CR: u8 = b'\r';
 
@@ -94,22 +94,9 @@ impl<'a> Sent<'a> {
             return Ok(String::new(alloc));
         }
         match self {
-            Sent::Plain(bytes) => borrowed_text(alloc, bytes),
+            Sent::Plain(bytes) => replaced(alloc, bytes),
             Sent::Escaped(sent) => owned_text(alloc, unescape(alloc, sent)?),
         }
-    }
-}
-
-/// The bytes as a new text.
-// for all bytes `from_utf8_lossy` would do, but it is not inlined, which takes some 8 ns more
-#[inline(always)]
-#[tactic(auto, using(crate::proofs::SentLemmas::texts))]
-fn borrowed_text(alloc: Global, bytes: &[u8]) -> Result<String, AllocError>
-    ensures { IfOk result (λ text. string_bytes text ≡ utf8_lossy bytes.now) }
-{
-    match from_utf8(bytes) {
-        Ok(text) => String::from_str(alloc, text),
-        Err(_) => String::from_utf8_lossy(alloc, bytes),
     }
 }
 
@@ -119,7 +106,7 @@ fn owned_text(alloc: Global, bytes: Vec<u8>) -> Result<String, AllocError>
 {
     match String::from_utf8(bytes) {
         Ok(text) => Ok(text),
-        Err(error) => borrowed_text(alloc, error.as_bytes()),
+        Err(error) => replaced(alloc, error.as_bytes()),
     }
 }
 

@@ -153,6 +153,7 @@ impl EventDecoder {
 
     /// Appends a piece to the pending bytes. When out of memory, nothing changes; it only is where
     /// the buffer would hold more bytes than it ever did, and never for an empty piece.
+    #[inline(always)]
     pub fn push(&mut self, piece: &[u8]) -> Result<(), AllocError>
         ensures ok { OnOk result (self.new ≡ pushed self.old piece.now) }
         ensures err { OnErr result (self.new ≡ self.old) }
@@ -293,6 +294,8 @@ impl EventDecoder {
     /// `None` where no line is complete, as `find_line` does. When out of memory, the line stays,
     /// and the next call finds it again; it never is for a line that is too long, or whose command
     /// takes no value.
+    // inlined, the event is made in its caller; else its 136 bytes move three times
+    #[inline(always)]
     pub fn next_event(&mut self) -> Result<Option<Event>, AllocError>
         ensures takes_next { TakesNext self.old result self.new }
         ensures line { self.new.line ≡ line_after self.old result self.new }
@@ -339,6 +342,9 @@ fn drop_front(buffer: &mut PendingBytes, skipped: &mut Skipped, count: usize)
     ensures within { IsTakenWithin buffer.new }
     ensures skipped { skipped.new ≡ skipped.old ++ take count (pending_in buffer.old) }
 {
+    if count == 0 {
+        return;
+    }
     let (front, _) = buffer.pending().split_at(count);
     skipped.add(front);
     buffer.start += count;

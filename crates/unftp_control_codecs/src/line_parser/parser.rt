@@ -58,14 +58,30 @@ fn four_go_on(line: &[u8]) -> bool
     four.simd_le(u8x4::splat(b' ')).to_bitmask() == 0
 }
 
+/// Whether the verb has three bytes, each greater than a space.
+#[inline(always)]
+fn has_three_letters(line: &[u8]) -> bool
+    requires { 4 ≤ length line.now }
+    ensures { IsTrue result → position_or_len is_separator line.now ≡ 3 }
+{
+    matches!(line[3], b' ' | b'\r' | b'\n') && line[0] > b' ' && line[1] > b' ' && line[2] > b' '
+}
+
 /// The length of the verb.
 #[inline(always)]
 fn verb_len(line: &[u8]) -> usize
     ensures place { result ≡ position_or_len is_separator line.now }
     ensures within { result ≤ length line.now }
 {
-    if line.len() <= 4 || !four_go_on(line) {
+    if line.len() <= 4 {
         return any_verb_len(line);
+    }
+    if !four_go_on(line) {
+        return if has_three_letters(line) {
+            3
+        } else {
+            any_verb_len(line)
+        };
     }
     // most verbs have four letters
     if matches!(line[4], b' ' | b'\r' | b'\n') {

@@ -14,6 +14,10 @@ use crate::reply::error::ControlChanError;
 use std::alloc::{AllocError, Global};
 use std::fmt;
 
+/// How many lines have their room at once, where the iterator may have so many: those of FEAT, and
+/// some more.
+const USUAL_LINES: usize = 16;
+
 /// What the server answers to a command (RFC 959, section 4.2).
 #[derive(Drop, PartialEq, Eq)]
 pub enum Reply {
@@ -159,8 +163,9 @@ fn owned_lines<'a, I: IntoIterator<Item = &'a str>>(
         × (map string_bytes owned.items ≡ map (λ text. text.now) texts)) }
 {
     let mut rest = lines.into_iter();
-    let (at_least, _) = rest.size_hint();
-    let mut owned = Vec::with_capacity(alloc, at_least)?;
+    let (at_least, at_most) = rest.size_hint();
+    let usual = at_most.unwrap_or(USUAL_LINES).min(USUAL_LINES);
+    let mut owned = Vec::with_capacity(alloc, at_least.max(usual))?;
     while let Some(line) = rest.next() {
         owned.push(String::from_str(alloc, line)?)?;
     }

@@ -1,5 +1,5 @@
 use Rattle.std.proofs.Common.{[], ◌∷◌, ◌++◌, subst, ◌∙◌}
-use Rattle.unftp_control_defs.specs.Bytes.{DASH, SP}
+use Rattle.unftp_control_defs.specs.Bytes.{DASH}
 use Rattle.unftp_control_codecs.specs.Encoding.{padded_line}
 use Rattle.unftp_control_commands.specs.Areas.{HasText}
 use Rattle.unftp_control_commands.proofs.AreaLemmas.{nothing}
@@ -32,11 +32,9 @@ returns c =
     let so_far = c.lines.invariant.0 in
     let digits = c.as_bytes-digits.result.now in
     let rest = c.lines.rest.now in
-    subst (λ text. HasText start text c.put-6.new.area c.put-6.new.len)
+    subst (λ text. HasText start text c.put_spaced.new.area c.put_spaced.new.len)
     (last_written c.args.code so_far rest
     (c.as_bytes-digits.ensures.value ∙ c.format.ensures.text) c.in_default.ensures
     c.lines.invariant.2)
-    (c.put-6.ensures start (((so_far ++ digits) ++ SP ∷ []) ++ rest)
-    (c.put-5.ensures start ((so_far ++ digits) ++ SP ∷ [])
-    (c.put-4.ensures start (so_far ++ digits)
-    (c.put-3.ensures start so_far c.lines.invariant.1))))
+    (c.put_spaced.ensures start (so_far ++ digits)
+    (c.put-3.ensures start so_far c.lines.invariant.1))

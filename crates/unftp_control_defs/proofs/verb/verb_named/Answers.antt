@@ -1,7 +1,9 @@
-use Rattle.std.proofs.Common.{sym, ◌∙◌}
-use Rattle.unftp_control_defs.proofs.WordLemmas.{found_upper}
+use Rattle.std.proofs.Common.{arith}
+use Rattle.std.proofs.lemmas.Bool.Decides.{nat_tests}
+use Rattle.unftp_control_defs.proofs.WordLemmas.{four_bytes}
 use Rattle.unftp_control_defs.proofs.verb.verb_named.Goals as goal
 
-pub returns-in-Some : goal.returns-in-Some
-returns-in-Some c = sym (found_upper c.args.word.now c.in_ok-word.word c.in-Some.verb
-    (sym c.in_ok-word.ensures) (sym c.verb_of.ensures ∙ c.in-Some.is))
+pub returns-in-len4 : goal.returns-in-len4
+returns-in-len4 c = c.padded_verb-in-len4.ensures c.args.word.now
+    (four_bytes c.args.word.now c.in-len4.len_at_least c.in-len4.len_below
+    (grind (arith, nat_tests, c.if-d-ne0.true)))
