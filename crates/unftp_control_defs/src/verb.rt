@@ -312,7 +312,7 @@ fn padded_verb(padded: [u8; 4]) -> Option<Verb>
 
 /// The verb that a word is, ignoring ASCII case.
 // most verbs have four letters, which are read at once
-#[inline]
+#[inline(always)]
 #[tactic(auto, using(crate::proofs::WordLemmas::words))]
 pub fn verb_named(word: &[u8]) -> Option<Verb>
     ensures { result ≡ row_of (upper word.now) verbs }

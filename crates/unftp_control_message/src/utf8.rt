@@ -57,11 +57,12 @@ fn is_ill_formed(bytes: &[u8]) -> bool
 }
 
 /// The bytes as a new text, each ill-formed part of UTF-8 replaced by U+FFFD.
-// `String::from_utf8_lossy` tests the bytes once more, and makes room three times
+// `String::from_utf8_lossy` tests the bytes once more, and makes room several times
 pub fn replaced(alloc: Global, bytes: &[u8]) -> Result<String, AllocError>
     ensures { IfOk result (λ text. string_bytes text ≡ utf8_lossy bytes.now) }
 {
-    let mut text = String::with_capacity(alloc, bytes.len())?;
+    // U+FFFD has three bytes, and replaces one at least
+    let mut text = String::with_capacity(alloc, bytes.len().saturating_mul(3))?;
     for chunk in bytes.utf8_chunks() {
         text.push_str(chunk.valid())?;
         if !chunk.invalid().is_empty() {
