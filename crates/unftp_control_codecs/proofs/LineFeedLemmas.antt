@@ -1,5 +1,5 @@
 -- What a search for a line feed finds.
-use Rattle.std.proofs.Common.{◌≡◌, ◌≢◌, ℕ, zero, suc, ◌+◌, ◌-◌, ◌*◌, ◌%◌, ◌^◌, ◌<◌, ◌≤◌, Bool, true, false, not, cond, eqb, [], ◌∷◌, ◌++◌, ◌⊎◌, length, map, replicate, take, drop, w8, Option, Some, None, refl, sym, ap, ◌∙◌, inl, inr, arith, eq-eqb, ne_eqb}
+use Rattle.std.proofs.Common.{◌≡◌, ◌≢◌, ℕ, zero, suc, ◌+◌, ◌-◌, ◌*◌, ◌%◌, ◌^◌, ◌<◌, ◌≤◌, Bool, true, false, not, cond, eqb, [], ◌∷◌, ◌++◌, ◌⊎◌, length, map, replicate, take, drop, Option, Some, None, refl, sym, ap, ◌∙◌, inl, inr, arith, eq-eqb, ne_eqb}
 use Rattle.std.specs.Prelude.{if◌then◌else◌, slice_index, position, option_map, ◌||◌}
 use Rattle.std.specs.List.{prefix_len}
 use Rattle.std.specs.Simd.Lanes.{chunk, mask_l, top, zip2}
@@ -7,11 +7,12 @@ use lib.Count.{count_trailing_zeros}
 use Rattle.std.proofs.lemmas.Bool.{cases_eq, lt-ltb, ltb-true}
 use Rattle.std.proofs.lemmas.Grind.{common_steps}
 use Rattle.std.proofs.lemmas.List.{length-drop, take_all, take_more}
-use Rattle.std.proofs.lemmas.Simd.{bitmask_splat, length-chunk, none_from_empty_mask, run_in_chunk_fails, run_in_chunk_stops, trailing_mask_l}
+use Rattle.std.proofs.lemmas.Simd.{length-chunk, run_in_chunk_fails, run_in_chunk_stops, trailing_mask_l}
 use Rattle.std.proofs.Math.Seq.{drop-cons}
 use Rattle.unftp_control_defs.specs.Bytes.{Bytes, LF, Lacks}
 use Rattle.unftp_control_defs.specs.Events.{exceeds}
 use Rattle.unftp_control_codecs.specs.LineFeed.{is_line_feed, line_feed_from}
+use Rattle.unftp_control_codecs.proofs.LaneLemmas.{found, found_is, none_found}
 
 position_cons : (b : ℕ) (bytes : Bytes) → position is_line_feed (b ∷ bytes)
     ≡ (if is_line_feed b then Some 0 else option_map suc (position is_line_feed bytes))
@@ -113,31 +114,29 @@ module _ (bytes : Bytes) (from : ℕ) where
 
   module _ (n : ℕ) (room : from + n ≤ length bytes) (few : n ≤ 64) where
     -- a bit for each of n bytes, 1 where it is a line feed
-    abbrev found : ℕ
-    found = mask_l (map (top 7) (zip2 (λ a b. cond (eqb a b) 255 0)
+    abbrev feeds : ℕ
+    feeds = mask_l (map (top 7) (zip2 (λ a b. cond (eqb a b) 255 0)
         (chunk 0 n (take (length bytes - from) (drop from bytes))) (replicate n LF))) % 2 ^ 64
 
-    found_is : found ≡ mask_l (map is_line_feed (chunk from n bytes))
-    found_is =
-        let whole = take_all (length bytes - from) (drop from bytes)
-        (omega (arith, length-drop from bytes)) in
-        ap (λ rest. mask_l (map (top 7) (zip2 (λ a b. cond (eqb a b) 255 0) (chunk 0 n rest)
-        (replicate n LF))) % 2 ^ 64) whole
-        ∙ bitmask_splat w8 eqb (chunk from n bytes) n LF (length-chunk from n bytes room) few
+    feeds_found : feeds ≡ found bytes from n LF
+    feeds_found = ap (λ rest. mask_l (map (top 7) (zip2 (λ a b. cond (eqb a b) 255 0)
+        (chunk 0 n rest) (replicate n LF))) % 2 ^ 64)
+        (take_all (length bytes - from) (drop from bytes) (omega (arith, length-drop from bytes)))
 
-    pub none_among : found ≡ 0 → line_feed_from bytes from ≡ line_feed_from bytes (from + n)
-    none_among none = passed_over n room
-        (none_from_empty_mask is_line_feed bytes from n 0 room (sym found_is ∙ none))
+    pub none_among : feeds ≡ 0 → line_feed_from bytes from ≡ line_feed_from bytes (from + n)
+    none_among none =
+        passed_over n room (none_found bytes from n room few LF (sym feeds_found ∙ none))
 
-    pub first_among : found ≢ 0
-        → line_feed_from bytes from ≡ Some (from + count_trailing_zeros 64 found)
+    pub first_among : feeds ≢ 0
+        → line_feed_from bytes from ≡ Some (from + count_trailing_zeros 64 feeds)
     first_among some =
         let block = chunk from n bytes in
         let long : length block ≡ n = length-chunk from n bytes room in
-        let set : 0 < mask_l (map is_line_feed block) = omega (arith, some, found_is) in
-        let before = count_trailing_zeros 64 found in
+        let is = feeds_found ∙ found_is bytes from n room few LF in
+        let set : 0 < mask_l (map is_line_feed block) = omega (arith, some, is) in
+        let before = count_trailing_zeros 64 feeds in
         let counted : before ≡ prefix_len passes block =
-        ap (count_trailing_zeros 64) found_is
+        ap (count_trailing_zeros 64) is
         ∙ trailing_mask_l is_line_feed 64 block (omega (arith, long, few)) set in
         let within : before < n = omega (arith, counted, long, some_stops block set) in
         passed_over before (omega (arith, within, room))

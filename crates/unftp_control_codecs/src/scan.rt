@@ -11,8 +11,11 @@ const LINE_FEED: u8 = b'\n';
 /// How many bytes are scanned at once, while there are so many.
 const BLOCK: usize = 16;
 
-/// How many are, where fewer are left. Fewer than these are scanned byte by byte.
+/// How many are, where fewer are left.
 const HALF_BLOCK: usize = 8;
+
+/// How many are, where fewer than those are left. The last ones are scanned byte by byte.
+const QUARTER_BLOCK: usize = 4;
 
 /// How many bytes were scanned, a number that only contracts see.
 #[derive(Drop)]
@@ -85,7 +88,7 @@ impl<'a, 'c> Scan<'a, 'c> {
         let mut at = from;
         // tested first, so that a piece of a few bytes takes the least time
         if self.bytes.len() - at < HALF_BLOCK {
-            return self.line_feed_by_bytes(at);
+            return self.line_feed_among_few(at);
         }
         while at + BLOCK <= self.bytes.len() {
             if let Some(line_feed) = self.line_feed_among::<BLOCK>(at) {
@@ -94,12 +97,32 @@ impl<'a, 'c> Scan<'a, 'c> {
             at += BLOCK;
         }
         if self.bytes.len() - at < HALF_BLOCK {
-            return self.line_feed_by_bytes(at);
+            return self.line_feed_among_few(at);
         }
         if let Some(line_feed) = self.line_feed_among::<HALF_BLOCK>(at) {
             return Some(line_feed);
         }
-        self.line_feed_by_bytes(at + HALF_BLOCK)
+        self.line_feed_among_few(at + HALF_BLOCK)
+    }
+
+    /// The same, where few bytes are left.
+    #[inline(always)]
+    fn line_feed_among_few(&mut self, from: usize) -> Option<usize>
+        requires { from ≤ length self.old.bytes.now }
+        ensures found { result ≡ line_feed_from self.old.bytes.now from }
+        ensures tests { MatchOption result
+            (self.new.tests.now ≡ self.old.tests.now + (length self.old.bytes.now - from))
+            (λ k. self.new.tests.now ≡ self.old.tests.now + (k + 1 - from)) }
+        ensures bytes { self.new.bytes.now ≡ self.old.bytes.now }
+        ensures same_reference { self.new.tests.ghost_name ≡ self.old.tests.ghost_name }
+    {
+        if self.bytes.len() - from < QUARTER_BLOCK {
+            return self.line_feed_by_bytes(from);
+        }
+        if let Some(line_feed) = self.line_feed_among::<QUARTER_BLOCK>(from) {
+            return Some(line_feed);
+        }
+        self.line_feed_by_bytes(from + QUARTER_BLOCK)
     }
 
     /// The same, byte by byte.

@@ -1,5 +1,5 @@
-//! The search of a short value for a CR or an LF, several bytes at a time.
-ghost use Rattle.std.specs.Prelude.{◌+◌, ◌≤◌, IsTrue, length};
+//! The search of a value for a CR or an LF, several bytes at a time.
+ghost use Rattle.std.specs.Prelude.{◌+◌, ◌≤◌, ◌<◌, IsTrue, length};
 ghost use Rattle.unftp_control_codecs.specs.Values.{LacksRunEnd};
 
 use std::simd::prelude::*;
@@ -8,40 +8,34 @@ const LF: u8 = b'\n';
 
 const CR: u8 = b'\r';
 
-/// How long a value may be that is searched here. `memchr2` takes less time over more bytes.
-const SHORT: usize = 64;
-
-/// Whether four bytes have no CR and no LF.
+/// Whether the next `N` bytes have no CR and no LF.
 #[inline(always)]
-fn four_are_plain(bytes: &[u8], from: usize) -> bool
-    requires { from + 4 ≤ length bytes.now }
-    ensures { IsTrue result → LacksRunEnd bytes.now from (from + 4) }
+fn are_plain<const N: usize>(bytes: &[u8], from: usize) -> bool
+    requires lanes { (0 < N) × (N ≤ 64) }
+    requires room { from + N ≤ length bytes.now }
+    ensures { IsTrue result → LacksRunEnd bytes.now from (from + N) }
 {
-    let four = u8x4::from_slice(&bytes[from..]);
-    four.simd_eq(u8x4::splat(CR)).to_bitmask() == 0
-        && four.simd_eq(u8x4::splat(LF)).to_bitmask() == 0
+    let block = Simd::<u8, N>::from_slice(&bytes[from..]);
+    block.simd_eq(Simd::splat(CR)).to_bitmask() == 0
+        && block.simd_eq(Simd::splat(LF)).to_bitmask() == 0
 }
 
-/// Whether eight bytes have no CR and no LF.
+/// Whether `N` bytes or more have no CR and no LF. The last `N` may be among those before.
 #[inline(always)]
-fn eight_are_plain(bytes: &[u8], from: usize) -> bool
-    requires { from + 8 ≤ length bytes.now }
-    ensures { IsTrue result → LacksRunEnd bytes.now from (from + 8) }
+fn all_are_plain<const N: usize>(bytes: &[u8]) -> bool
+    requires lanes { (0 < N) × (N ≤ 64) }
+    requires room { N ≤ length bytes.now }
+    ensures { IsTrue result → LacksRunEnd bytes.now 0 (length bytes.now) }
 {
-    let eight = u8x8::from_slice(&bytes[from..]);
-    eight.simd_eq(u8x8::splat(CR)).to_bitmask() == 0
-        && eight.simd_eq(u8x8::splat(LF)).to_bitmask() == 0
-}
-
-/// Whether sixteen bytes have no CR and no LF.
-#[inline(always)]
-fn sixteen_are_plain(bytes: &[u8], from: usize) -> bool
-    requires { from + 16 ≤ length bytes.now }
-    ensures { IsTrue result → LacksRunEnd bytes.now from (from + 16) }
-{
-    let sixteen = u8x16::from_slice(&bytes[from..]);
-    sixteen.simd_eq(u8x16::splat(CR)).to_bitmask() == 0
-        && sixteen.simd_eq(u8x16::splat(LF)).to_bitmask() == 0
+    let last = bytes.len() - N;
+    let mut at = 0usize;
+    while at < last {
+        if !are_plain::<N>(bytes, at) {
+            return false;
+        }
+        at += N;
+    }
+    are_plain::<N>(bytes, last)
 }
 
 /// Whether up to three bytes have no CR and no LF.
@@ -57,36 +51,17 @@ fn few_are_plain(bytes: &[u8]) -> bool
     true
 }
 
-/// Whether sixteen bytes or more have no CR and no LF. The last sixteen may be among those before.
+/// Whether a value has no CR and no LF.
+// `memchr2` takes four times as long over many bytes on the oldest x86-64
 #[inline(always)]
-fn many_are_plain(bytes: &[u8]) -> bool
-    requires { 16 ≤ length bytes.now }
-    ensures { IsTrue result → LacksRunEnd bytes.now 0 (length bytes.now) }
-{
-    let last = bytes.len() - 16;
-    let mut at = 0usize;
-    while at < last {
-        if !sixteen_are_plain(bytes, at) {
-            return false;
-        }
-        at += 16;
-    }
-    sixteen_are_plain(bytes, last)
-}
-
-/// Whether a value is short, and has no CR and no LF.
-#[inline(always)]
-pub fn is_short_and_plain(value: &[u8]) -> bool
+pub fn is_plain(value: &[u8]) -> bool
     ensures { IsTrue result → LacksRunEnd value.now 0 (length value.now) }
 {
-    let len = value.len();
-    if len >= 16 {
-        len <= SHORT && many_are_plain(value)
-    } else if len >= 8 {
-        eight_are_plain(value, 0) && eight_are_plain(value, len - 8)
-    } else if len >= 4 {
-        four_are_plain(value, 0) && four_are_plain(value, len - 4)
-    } else {
-        few_are_plain(value)
+    match value.len() {
+        64.. => all_are_plain::<64>(value),
+        16.. => all_are_plain::<16>(value),
+        8.. => all_are_plain::<8>(value),
+        4.. => all_are_plain::<4>(value),
+        _ => few_are_plain(value),
     }
 }

@@ -5,7 +5,7 @@ ghost use Rattle.unftp_control_defs.specs.ComputedValue.{value_of};
 ghost use Rattle.unftp_control_message.specs.SentValues.{sent_value};
 ghost use Rattle.unftp_control_codecs.specs.Values.{IsFreshEnd, IsLaterLen, IsPlainEnd, Resumes, begins_with_line_end, first_value_of};
 
-use crate::line_parser::plain::is_short_and_plain;
+use crate::line_parser::plain::is_plain;
 use memchr::memchr2;
 use unftp_control_message::sent::{Sent, begins_with_cr_nul, cr_nul_count};
 
@@ -91,7 +91,7 @@ fn is_crlf(bytes: &[u8]) -> bool
     matches!(bytes, [CR, LF])
 }
 
-/// The value of the usual parameter, which is short, and has a CR and an LF only at its end.
+/// The value of the usual parameter, which has a CR and an LF only at its end.
 #[inline(always)]
 fn usual_value(parameter: &[u8]) -> Option<&[u8]>
     ensures { IfSome result (λ value. value_of parameter.now ≡ Some value.now) }
@@ -100,7 +100,7 @@ fn usual_value(parameter: &[u8]) -> Option<&[u8]>
     if !is_crlf(end) {
         return None;
     }
-    if is_short_and_plain(value) {
+    if is_plain(value) {
         return Some(value);
     }
     None
