@@ -118,21 +118,21 @@ module _ (bytes : Bytes) (from : ℕ) where
     feeds = mask_l (map (top 7) (zip2 (λ a b. cond (eqb a b) 255 0)
         (chunk 0 n (take (length bytes - from) (drop from bytes))) (replicate n LF))) % 2 ^ 64
 
-    feeds_found : feeds ≡ found bytes from n LF
+    feeds_found : feeds ≡ found bytes from n eqb LF
     feeds_found = ap (λ rest. mask_l (map (top 7) (zip2 (λ a b. cond (eqb a b) 255 0)
         (chunk 0 n rest) (replicate n LF))) % 2 ^ 64)
         (take_all (length bytes - from) (drop from bytes) (omega (arith, length-drop from bytes)))
 
     pub none_among : feeds ≡ 0 → line_feed_from bytes from ≡ line_feed_from bytes (from + n)
     none_among none =
-        passed_over n room (none_found bytes from n room few LF (sym feeds_found ∙ none))
+        passed_over n room (none_found bytes from n room few eqb LF (sym feeds_found ∙ none))
 
     pub first_among : feeds ≢ 0
         → line_feed_from bytes from ≡ Some (from + count_trailing_zeros 64 feeds)
     first_among some =
         let block = chunk from n bytes in
         let long : length block ≡ n = length-chunk from n bytes room in
-        let is = feeds_found ∙ found_is bytes from n room few LF in
+        let is = feeds_found ∙ found_is bytes from n room few eqb LF in
         let set : 0 < mask_l (map is_line_feed block) = omega (arith, some, is) in
         let before = count_trailing_zeros 64 feeds in
         let counted : before ≡ prefix_len passes block =
