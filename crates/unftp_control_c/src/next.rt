@@ -198,7 +198,7 @@ fn is_word(parts: &Parts<'_>) -> bool
     matches!(parts.value, Value::None) && parts.name.is_empty()
 }
 
-/// What a caller is given for a verb without a name and a value.
+/// What a caller is given for a verb that has neither a name nor a value.
 #[inline(always)]
 fn given_for_word(verb: Verb) -> Given<'static>
     ensures { meant result ≡ given_of (record { verb = verb; name = []; value = Nothing }) }

@@ -24,7 +24,7 @@ no_separator b above = rw (
 ) refl
 
 module _ (bytes : Bytes) (from n : ℕ) where
-  -- a bit for each of n bytes, 1 where it compares so with this one
+  -- a bit for each of n bytes, 1 where this holds of it and of the byte that is compared
   abbrev pub found : (ℕ → ℕ → Bool) → ℕ → ℕ
   found compare byte = mask_l (map (top 7) (zip2 (λ a b. cond (compare a b) 255 0)
       (chunk from n bytes) (replicate n byte))) % 2 ^ 64

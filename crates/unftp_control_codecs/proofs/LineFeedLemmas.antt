@@ -86,7 +86,7 @@ module _ (bytes : Bytes) (from : ℕ) (within : from < length bytes) where
       rw (drop-cons bytes from 0 within, position_cons, e, sym next)
       (passed from (position is_line_feed (drop (suc from) bytes)))
 
--- whether a byte comes before the first line feed
+-- whether a search goes on after a byte
 abbrev passes : ℕ → Bool
 passes byte = not (is_line_feed byte)
 

@@ -32,8 +32,8 @@ use unftp_control_message::reply::error::{ControlChanError, ControlChanErrorKind
 
 /// Decodes the commands of a control connection, and encodes its replies.
 ///
-/// It keeps the scan offset of its buffer, where the search for a line feed goes on, so that no
-/// byte is scanned twice. `place` returns it.
+/// It keeps the scan offset of its buffer, where the search for a line feed goes on: no byte before
+/// it is searched again. `place` returns it.
 ///
 /// With a limit it keeps no line that is longer: the bytes of such a line leave the buffer as they
 /// come, and `skipping` returns whether some did. The scan offset is then 0.
@@ -148,7 +148,9 @@ impl FtpCodec {
         self.place
     }
 
-    /// How many bytes were scanned for a line feed. Only contracts see it.
+    /// How many bytes were scanned for a line feed: those up to each that was found, and all where
+    /// none was. Up to fifteen after it may be read with it, and count when they are scanned for
+    /// the next. Only contracts see it.
     pub fn tests(&self) -> Count
         ensures { result ≡ self.now.tests }
     {

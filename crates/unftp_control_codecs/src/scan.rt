@@ -8,13 +8,13 @@ use unftp_control_defs::count::Count;
 
 const LINE_FEED: u8 = b'\n';
 
-/// How many bytes are scanned at once, while there are so many.
+/// How many bytes are read at once, while so many are left.
 const BLOCK: usize = 16;
 
-/// How many are, where fewer are left.
+/// How many are, where fewer than `BLOCK` are left.
 const HALF_BLOCK: usize = 8;
 
-/// How many are, where fewer than those are left. The last ones are scanned byte by byte.
+/// How many are, where fewer than `HALF_BLOCK` are left. The last ones are read one by one.
 const QUARTER_BLOCK: usize = 4;
 
 /// How many bytes were scanned, a number that only contracts see.
@@ -146,8 +146,8 @@ impl<'a, 'c> Scan<'a, 'c> {
         None
     }
 
-    /// The first line feed at or after `from`, if it is one of the next `N` bytes. These are read
-    /// at once, and count as scanned up to the line feed.
+    /// The first line feed at or after `from`, if it is one of the next `N` bytes. These are read at
+    /// once. Those up to it count as scanned, or all where there is none.
     #[inline(always)]
     fn line_feed_among<const N: usize>(&mut self, from: usize) -> Option<usize>
         requires lanes { (0 < N) × (N ≤ 64) }

@@ -94,7 +94,7 @@ pub fn append(buf: &mut Vec<u8>, bytes: &[u8]) -> Result<(), AllocError>
 {
     match bytes {
         [] => Ok(()),
-        // without a call that copies
+        // without a call of `memcpy`
         [byte] => Ok(buf.push(*byte)?),
         _ => buf.extend_from_slice(bytes),
     }

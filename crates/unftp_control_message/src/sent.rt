@@ -7,6 +7,7 @@ use crate::utf8::replaced;
 use bytes::Bytes;
 use memchr::memchr;
 use std::alloc::{AllocError, Global};
+use std::str::from_utf8;
 
 const CR: u8 = b'\r';
 
@@ -94,9 +95,21 @@ impl<'a> Sent<'a> {
             return Ok(String::new(alloc));
         }
         match self {
-            Sent::Plain(bytes) => replaced(alloc, bytes),
+            Sent::Plain(bytes) => new_text(alloc, bytes),
             Sent::Escaped(sent) => owned_text(alloc, unescape(alloc, sent)?),
         }
+    }
+}
+
+/// The bytes as a new text, with no more room than they need where they are well-formed UTF-8.
+#[inline(always)]
+#[tactic(auto, using(crate::proofs::SentLemmas::texts))]
+fn new_text(alloc: Global, bytes: &[u8]) -> Result<String, AllocError>
+    ensures { IfOk result (λ text. string_bytes text ≡ utf8_lossy bytes.now) }
+{
+    match from_utf8(bytes) {
+        Ok(text) => String::from_str(alloc, text),
+        Err(_) => replaced(alloc, bytes),
     }
 }
 

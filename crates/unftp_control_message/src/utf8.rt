@@ -8,12 +8,15 @@ use std::alloc::{AllocError, Global};
 use std::simd::prelude::*;
 use std::str::from_utf8;
 
-/// How many bytes a text has at least for which `long_text` takes less time than std.
+/// A text of so many bytes or more takes less time by `long_text` than by std.
 pub const LONG: usize = 128;
 
-/// The bytes of a long text as one, or none where they are not UTF-8: 64 bytes are tested at a
-/// time. The first 32 show whether std is faster, which it is over ASCII, and where it finds an
-/// ill-formed part at once.
+/// For how many ill-formed parts a text has room from the start: each has one byte at least, and
+/// U+FFFD has three.
+const PARTS: usize = 16;
+
+/// The bytes as a text, or none where they are not UTF-8. They are tested 64 at a time, unless the
+/// first 32 are ASCII or ill-formed: then std takes less time.
 #[inline(never)]
 pub fn long_text(bytes: &[u8]) -> Option<&str>
     requires { 32 ≤ length bytes.now }
@@ -27,7 +30,7 @@ pub fn long_text(bytes: &[u8]) -> Option<&str>
             Err(_) => None,
         };
     }
-    // not by a byte shuffle, which the processors lack for which the library for C is made
+    // the form without byte shuffles: the oldest x86-64, which the library for C is for, has none
     match from_utf8_baseline(bytes) {
         Ok(text) => Some(text),
         Err(_) => None,
@@ -46,7 +49,7 @@ fn is_ascii(bytes: &[u8]) -> bool
         == 0
 }
 
-/// Whether the bytes have an ill-formed part, whatever comes after them.
+/// Whether the bytes have a part that is ill-formed UTF-8, whatever comes after them.
 fn is_ill_formed(bytes: &[u8]) -> bool
     ensures { IsTrue result → ¬ (IsUtf8 bytes.now) }
 {
@@ -56,13 +59,13 @@ fn is_ill_formed(bytes: &[u8]) -> bool
     }
 }
 
-/// The bytes as a new text, each ill-formed part of UTF-8 replaced by U+FFFD.
+/// The bytes as a new text, each ill-formed part of UTF-8 replaced by U+FFFD. It has room for
+/// `PARTS` of them at once.
 // `String::from_utf8_lossy` tests the bytes once more, and makes room several times
-pub fn replaced(alloc: Global, bytes: &[u8]) -> Result<String, AllocError>
+pub(crate) fn replaced(alloc: Global, bytes: &[u8]) -> Result<String, AllocError>
     ensures { IfOk result (λ text. string_bytes text ≡ utf8_lossy bytes.now) }
 {
-    // U+FFFD has three bytes, and replaces one at least
-    let mut text = String::with_capacity(alloc, bytes.len().saturating_mul(3))?;
+    let mut text = String::with_capacity(alloc, bytes.len().saturating_add(2 * PARTS))?;
     for chunk in bytes.utf8_chunks() {
         text.push_str(chunk.valid())?;
         if !chunk.invalid().is_empty() {

@@ -137,7 +137,7 @@ impl EventDecoder {
         self.skipped.count().saturating_add(kept as u64)
     }
 
-    /// How many bytes were scanned for a line feed. Only contracts see it.
+    /// How many bytes were scanned for a line feed, as `FtpCodec` counts. Only contracts see it.
     pub fn tests(&self) -> Count
         ensures { result ≡ self.now.scanned }
     {

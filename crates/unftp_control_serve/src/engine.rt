@@ -205,7 +205,7 @@ impl Engine {
         matches!(self.phase, Phase::Finished)
     }
 
-    /// How many bytes were scanned for a line feed. Only contracts see it.
+    /// How many bytes were scanned for a line feed, as `FtpCodec` counts. Only contracts see it.
     pub fn tests(&self) -> Count
         ensures { result ≡ self.now.scanned }
     {

@@ -6,7 +6,7 @@ use std::simd::prelude::*;
 
 const CR: u8 = b'\r';
 
-/// Whether the next `N` bytes are greater than a CR, so that none is a CR or an LF.
+/// Whether the `N` bytes at `from` are greater than a CR, so that none is a CR or an LF.
 #[inline(always)]
 fn are_plain<const N: usize>(bytes: &[u8], from: usize) -> bool
     requires lanes { (0 < N) × (N ≤ 64) }
@@ -17,7 +17,7 @@ fn are_plain<const N: usize>(bytes: &[u8], from: usize) -> bool
     block.simd_le(Simd::splat(CR)).to_bitmask() == 0
 }
 
-/// The same of all bytes, at least `N`. The last `N` may be among those before.
+/// The same of all bytes, which are `N` or more. Some of the last `N` may be read twice.
 #[inline(always)]
 fn all_are_plain<const N: usize>(bytes: &[u8]) -> bool
     requires lanes { (0 < N) × (N ≤ 64) }
@@ -48,8 +48,8 @@ fn few_are_plain(bytes: &[u8]) -> bool
     true
 }
 
-/// Whether a value has no CR and no LF. One with other bytes below CR may be taken for one that
-/// has.
+/// Whether all bytes of a value are greater than a CR, so that it has no CR and no LF. One with a
+/// TAB is not plain by this.
 // over many bytes `memchr2` takes five times the instructions on the oldest x86-64
 #[inline(always)]
 pub fn is_plain(value: &[u8]) -> bool

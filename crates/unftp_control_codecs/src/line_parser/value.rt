@@ -91,7 +91,7 @@ fn is_crlf(bytes: &[u8]) -> bool
     matches!(bytes, [CR, LF])
 }
 
-/// The value of the usual parameter, which has a CR and an LF only at its end.
+/// The value of the usual parameter, which has only bytes greater than a CR before its CR LF.
 #[inline(always)]
 fn usual_value(parameter: &[u8]) -> Option<&[u8]>
     ensures { IfSome result (λ value. value_of parameter.now ≡ Some value.now) }

@@ -14,8 +14,7 @@ use crate::reply::error::ControlChanError;
 use std::alloc::{AllocError, Global};
 use std::fmt;
 
-/// How many lines have their room at once, where the iterator may have so many: those of FEAT, and
-/// some more.
+/// Room for so many lines is made at once, unless the iterator has fewer. FEAT's reply has fewer.
 const USUAL_LINES: usize = 16;
 
 /// What the server answers to a command (RFC 959, section 4.2).
