@@ -4,7 +4,7 @@
  *
  * made by: tools/generated --write
  * toolchain: rattle-kit-13f logic dac8208d650f15bf
- * sources: sha256 0bc409d800312e6bdfe5701b81846f0b0228bfeae674ecb9e5dbf9176389b4c1
+ * sources: sha256 73843070aa2bab2e56f7e5c002c9d83b0ec464306ceb350c694d2eeed70d222b
  */
 	.section	.rodata.cst16,"aM",@progbits,16
 	.p2align	4, 0x0
@@ -10120,82 +10120,176 @@
 	ldp	x1, x2, [x1, #8]
 	ldrb	w8, [x8]
 	mov	x19, x0
-	stp	x29, x30, [sp, #128]
-	add	x29, sp, #128
+	stp	x29, x30, [sp, #112]
+	add	x29, sp, #112
+	str	x23, [sp, #128]
 	stp	x22, x21, [sp, #144]
 	stp	q0, q0, [sp]
-	stp	q0, q0, [sp, #32]
 	cbz	x2, .Lunftp_0_3_0_BB25_4
 	cbz	w8, .Lunftp_0_3_0_BB25_5
 	mov	x0, sp
 	bl	"unftp_0_3_0::unftp_control_message::sent::unescape"
 	ldrb	w8, [sp]
-	cbz	w8, .Lunftp_0_3_0_BB25_6
+	cbz	w8, .Lunftp_0_3_0_BB25_7
 	mov	w8, #1
 	stp	xzr, xzr, [x19, #16]
 	strb	w8, [x19]
 	str	xzr, [x19, #8]
 	ldp	x20, x19, [sp, #160]
+	ldr	x23, [sp, #128]
 	ldp	x22, x21, [sp, #144]
-	ldp	x29, x30, [sp, #128]
+	ldp	x29, x30, [sp, #112]
 	add	sp, sp, #176
 	ret
 .Lunftp_0_3_0_BB25_4:
-	sub	x8, x29, #1
+	add	x8, x29, #31
 	strb	wzr, [x19]
 	stp	xzr, xzr, [x19, #16]
 	str	x8, [x19, #8]
 	ldp	x20, x19, [sp, #160]
+	ldr	x23, [sp, #128]
 	ldp	x22, x21, [sp, #144]
-	ldp	x29, x30, [sp, #128]
+	ldp	x29, x30, [sp, #112]
 	add	sp, sp, #176
 	ret
 .Lunftp_0_3_0_BB25_5:
-	add	x0, sp, #32
+	sub	x0, x29, #24
+	stp	xzr, xzr, [x29, #-16]
+	mov	x21, x1
+	stur	xzr, [x29, #-24]
+	mov	x20, x2
+	stp	q0, q0, [sp, #48]
+	bl	"unftp_0_3_0::core::str::utf8::from_utf8"
+	ldurb	w8, [x29, #-24]
+	cbz	w8, .Lunftp_0_3_0_BB25_10
+	add	x0, sp, #48
+	mov	x1, x21
+	mov	x2, x20
 	bl	"unftp_0_3_0::unftp_control_message::utf8::replaced"
-	ldrb	w8, [sp, #32]
-	b	.Lunftp_0_3_0_BB25_11
-.Lunftp_0_3_0_BB25_6:
+	ldrb	w23, [sp, #48]
+	ldr	x20, [sp, #56]
+	b	.Lunftp_0_3_0_BB25_35
+.Lunftp_0_3_0_BB25_7:
 	movi	v0.2d, #0000000000000000
 	ldp	x20, x21, [sp, #8]
 	ldr	x22, [sp, #24]
-	sub	x0, x29, #32
-	stp	xzr, xzr, [x29, #-32]
-	stur	xzr, [x29, #-16]
+	sub	x0, x29, #24
+	stp	xzr, xzr, [x29, #-24]
+	stur	xzr, [x29, #-8]
 	mov	x1, x20
 	mov	x2, x21
-	stp	q0, q0, [sp, #64]
+	stp	q0, q0, [sp, #48]
 	bl	"unftp_0_3_0::core::str::utf8::from_utf8"
-	ldurb	w8, [x29, #-32]
+	ldurb	w8, [x29, #-24]
 	cmp	w8, #1
-	b.ne	.Lunftp_0_3_0_BB25_9
-	add	x0, sp, #64
+	b.ne	.Lunftp_0_3_0_BB25_14
+	add	x0, sp, #48
 	mov	x1, x20
 	mov	x2, x21
 	bl	"unftp_0_3_0::unftp_control_message::utf8::replaced"
-	cbz	x22, .Lunftp_0_3_0_BB25_10
+	cbz	x22, .Lunftp_0_3_0_BB25_15
 	mov	x0, x20
 	bl	unftp_0_3_0_rattle_dealloc
-	b	.Lunftp_0_3_0_BB25_10
-.Lunftp_0_3_0_BB25_9:
-	strb	wzr, [sp, #64]
-	stp	x20, x21, [sp, #72]
-	str	x22, [sp, #88]
+	b	.Lunftp_0_3_0_BB25_15
 .Lunftp_0_3_0_BB25_10:
-	ldur	q0, [sp, #72]
-	ldr	x9, [sp, #88]
-	ldrb	w8, [sp, #64]
-	stur	q0, [sp, #40]
-	str	x9, [sp, #56]
-.Lunftp_0_3_0_BB25_11:
-	ldr	x9, [sp, #40]
-	ldr	q0, [sp, #48]
-	strb	w8, [x19]
-	str	x9, [x19, #8]
+	ldp	x22, x21, [x29, #-16]
+	cbz	x21, .Lunftp_0_3_0_BB25_16
+	tbnz	x21, #63, .Lunftp_0_3_0_BB25_23
+	mov	x0, x21
+	mov	w1, #1
+	mov	w23, #1
+	bl	unftp_0_3_0_rattle_alloc
+	tbz	w0, #0, .Lunftp_0_3_0_BB25_24
+	mov	x20, x1
+	b	.Lunftp_0_3_0_BB25_17
+.Lunftp_0_3_0_BB25_14:
+	strb	wzr, [sp, #48]
+	stp	x20, x21, [sp, #56]
+	str	x22, [sp, #72]
+.Lunftp_0_3_0_BB25_15:
+	ldr	q0, [sp, #64]
+	ldrb	w23, [sp, #48]
+	ldr	x20, [sp, #56]
+	b	.Lunftp_0_3_0_BB25_36
+.Lunftp_0_3_0_BB25_16:
+	add	x20, x29, #31
+.Lunftp_0_3_0_BB25_17:
+	sub	x9, x20, x22
+	cmp	x9, x21
+	b.hs	.Lunftp_0_3_0_BB25_22
+	cmp	x21, #8
+	mov	x8, xzr
+	b.lo	.Lunftp_0_3_0_BB25_31
+	cmp	x9, #32
+	b.lo	.Lunftp_0_3_0_BB25_31
+	cmp	x21, #32
+	b.hs	.Lunftp_0_3_0_BB25_25
+	mov	x8, xzr
+	b	.Lunftp_0_3_0_BB25_29
+.Lunftp_0_3_0_BB25_22:
+	mov	x0, x20
+	mov	x1, x22
+	mov	x2, x21
+	bl	memmove
+	b	.Lunftp_0_3_0_BB25_33
+.Lunftp_0_3_0_BB25_23:
+	mov	x20, xzr
+	mov	x21, xzr
+	mov	w23, #1
+	b	.Lunftp_0_3_0_BB25_34
+.Lunftp_0_3_0_BB25_24:
+	mov	x20, xzr
+	mov	x21, xzr
+	b	.Lunftp_0_3_0_BB25_34
+.Lunftp_0_3_0_BB25_25:
+	and	x9, x21, #0x18
+	and	x8, x21, #0xffffffffffffffe0
+	add	x10, x22, #16
+	add	x11, x20, #16
+	and	x12, x21, #0xffffffffffffffe0
+.Lunftp_0_3_0_BB25_26:
+	ldp	q0, q1, [x10, #-16]
+	subs	x12, x12, #32
+	add	x10, x10, #32
+	stp	q0, q1, [x11, #-16]
+	add	x11, x11, #32
+	b.ne	.Lunftp_0_3_0_BB25_26
+	cmp	x21, x8
+	b.eq	.Lunftp_0_3_0_BB25_33
+	cbz	x9, .Lunftp_0_3_0_BB25_31
+.Lunftp_0_3_0_BB25_29:
+	mov	x9, x8
+	and	x8, x21, #0xfffffffffffffff8
+.Lunftp_0_3_0_BB25_30:
+	ldr	d0, [x22, x9]
+	str	d0, [x20, x9]
+	add	x9, x9, #8
+	cmp	x8, x9
+	b.ne	.Lunftp_0_3_0_BB25_30
+	b	.Lunftp_0_3_0_BB25_32
+.Lunftp_0_3_0_BB25_31:
+	ldrb	w9, [x22, x8]
+	strb	w9, [x20, x8]
+	add	x8, x8, #1
+.Lunftp_0_3_0_BB25_32:
+	cmp	x21, x8
+	b.ne	.Lunftp_0_3_0_BB25_31
+.Lunftp_0_3_0_BB25_33:
+	mov	w23, wzr
+.Lunftp_0_3_0_BB25_34:
+	stp	x21, x21, [sp, #64]
+.Lunftp_0_3_0_BB25_35:
+	ldr	q0, [sp, #64]
+.Lunftp_0_3_0_BB25_36:
+	str	q0, [sp, #32]
+	ldr	q0, [sp, #32]
+	strb	w23, [x19]
+	str	x20, [x19, #8]
 	str	q0, [x19, #16]
 	ldp	x20, x19, [sp, #160]
+	ldr	x23, [sp, #128]
 	ldp	x22, x21, [sp, #144]
-	ldp	x29, x30, [sp, #128]
+	ldp	x29, x30, [sp, #112]
 	add	sp, sp, #176
 	ret
 .Lunftp_0_3_0_func_end25:
@@ -10206,20 +10300,15 @@
 	.type	"unftp_0_3_0::unftp_control_message::utf8::replaced",@function
 "unftp_0_3_0::unftp_control_message::utf8::replaced":
 	sub	sp, sp, #128
-	mov	x8, #6148914691236517205
+	adds	x8, x2, #32
 	stp	x22, x21, [sp, #96]
-	cmp	x2, x8
 	stp	x20, x19, [sp, #112]
+	csinv	x22, x8, xzr, lo
 	mov	x19, x0
-	csel	x8, x2, x8, lo
 	stp	x29, x30, [sp, #48]
 	add	x29, sp, #48
-	add	x22, x8, x8, lsl #1
 	str	x25, [sp, #64]
 	stp	x24, x23, [sp, #80]
-	stp	xzr, xzr, [sp]
-	str	xzr, [sp, #16]
-	cbz	x2, .Lunftp_0_3_0_BB26_31
 	tbnz	x22, #63, .Lunftp_0_3_0_BB26_30
 	mov	x21, x1
 	mov	x0, x22
@@ -10229,11 +10318,18 @@
 	tbz	w0, #0, .Lunftp_0_3_0_BB26_30
 	stp	x1, xzr, [sp]
 	str	x22, [sp, #16]
-	b	.Lunftp_0_3_0_BB26_5
+	cbnz	x20, .Lunftp_0_3_0_BB26_5
+.Lunftp_0_3_0_BB26_3:
+	ldr	q0, [sp]
+	ldr	x8, [sp, #16]
+	strb	wzr, [x19]
+	stur	q0, [x19, #8]
+	str	x8, [x19, #24]
+	b	.Lunftp_0_3_0_BB26_31
 .Lunftp_0_3_0_BB26_4:
 	sub	x20, x20, x23
 	add	x21, x21, x23
-	cbz	x20, .Lunftp_0_3_0_BB26_32
+	cbz	x20, .Lunftp_0_3_0_BB26_3
 .Lunftp_0_3_0_BB26_5:
 	add	x0, sp, #24
 	mov	x1, x21
@@ -10362,18 +10458,7 @@
 	stp	xzr, xzr, [x19, #16]
 	strb	w8, [x19]
 	str	xzr, [x19, #8]
-	b	.Lunftp_0_3_0_BB26_33
 .Lunftp_0_3_0_BB26_31:
-	add	x8, x29, #31
-	str	x22, [sp, #16]
-	str	x8, [sp]
-.Lunftp_0_3_0_BB26_32:
-	ldr	q0, [sp]
-	ldr	x8, [sp, #16]
-	strb	wzr, [x19]
-	stur	q0, [x19, #8]
-	str	x8, [x19, #24]
-.Lunftp_0_3_0_BB26_33:
 	ldp	x20, x19, [sp, #112]
 	ldr	x25, [sp, #64]
 	ldp	x22, x21, [sp, #96]

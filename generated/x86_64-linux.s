@@ -4,7 +4,7 @@
  *
  * made by: tools/generated --write
  * toolchain: rattle-kit-13f logic dac8208d650f15bf
- * sources: sha256 0bc409d800312e6bdfe5701b81846f0b0228bfeae674ecb9e5dbf9176389b4c1
+ * sources: sha256 73843070aa2bab2e56f7e5c002c9d83b0ec464306ceb350c694d2eeed70d222b
  */
 	.section	.rodata.cst16,"aM",@progbits,16
 	.p2align	4, 0x0
@@ -12357,96 +12357,214 @@
 	.p2align	4
 	.type	"unftp_0_3_0::unftp_control_message::sent::Sent::to_text",@function
 "unftp_0_3_0::unftp_control_message::sent::Sent::to_text":
+	pushq	%rbp
 	pushq	%r15
 	pushq	%r14
 	pushq	%r12
 	pushq	%rbx
-	subq	$136, %rsp
+	subq	$128, %rsp
 	movq	%rsi, %rax
 	movq	%rdi, %rbx
 	movzbl	(%rsi), %ecx
 	movq	8(%rsi), %rsi
 	movq	16(%rax), %rdx
 	xorps	%xmm0, %xmm0
-	movaps	%xmm0, 64(%rsp)
-	movaps	%xmm0, 48(%rsp)
-	movaps	%xmm0, 80(%rsp)
+	movaps	%xmm0, 112(%rsp)
 	movaps	%xmm0, 96(%rsp)
 	testq	%rdx, %rdx
 	je	.Lunftp_0_3_0_BB24_1
 	testb	%cl, %cl
 	je	.Lunftp_0_3_0_BB24_3
-	leaq	80(%rsp), %rdi
+	leaq	96(%rsp), %rdi
 	callq	"unftp_0_3_0::unftp_control_message::sent::unescape"
-	cmpb	$0, 80(%rsp)
-	je	.Lunftp_0_3_0_BB24_5
+	cmpb	$0, 96(%rsp)
+	je	.Lunftp_0_3_0_BB24_33
 	movb	$1, (%rbx)
 	xorps	%xmm0, %xmm0
 	movups	%xmm0, 8(%rbx)
 	movq	$0, 24(%rbx)
-	jmp	.Lunftp_0_3_0_BB24_11
+	jmp	.Lunftp_0_3_0_BB24_38
 .Lunftp_0_3_0_BB24_1:
 	movb	$0, (%rbx)
 	leaq	15(%rsp), %rax
 	movq	%rax, 8(%rbx)
 	movups	%xmm0, 16(%rbx)
-	jmp	.Lunftp_0_3_0_BB24_11
+	jmp	.Lunftp_0_3_0_BB24_38
 .Lunftp_0_3_0_BB24_3:
+	movaps	%xmm0, 48(%rsp)
+	movq	$0, 64(%rsp)
+	movaps	%xmm0, 16(%rsp)
+	movaps	%xmm0, 32(%rsp)
 	leaq	48(%rsp), %rdi
+	movq	%rsi, %r15
+	movq	%rdx, %r14
+	callq	"unftp_0_3_0::core::str::utf8::from_utf8"
+	cmpb	$0, 48(%rsp)
+	je	.Lunftp_0_3_0_BB24_4
+	leaq	16(%rsp), %rdi
+	movq	%r15, %rsi
+	movq	%r14, %rdx
 	callq	"unftp_0_3_0::unftp_control_message::utf8::replaced"
-	movzbl	48(%rsp), %eax
-	jmp	.Lunftp_0_3_0_BB24_10
-.Lunftp_0_3_0_BB24_5:
-	movq	88(%rsp), %r14
-	movq	96(%rsp), %r15
-	movq	104(%rsp), %r12
+	jmp	.Lunftp_0_3_0_BB24_30
+.Lunftp_0_3_0_BB24_33:
+	movq	104(%rsp), %r14
+	movq	112(%rsp), %r15
+	movq	120(%rsp), %r12
 	xorps	%xmm0, %xmm0
 	movaps	%xmm0, 32(%rsp)
 	movaps	%xmm0, 16(%rsp)
-	movaps	%xmm0, 112(%rsp)
-	movq	$0, 128(%rsp)
-	leaq	112(%rsp), %rdi
+	movaps	%xmm0, 48(%rsp)
+	movq	$0, 64(%rsp)
+	leaq	48(%rsp), %rdi
 	movq	%r14, %rsi
 	movq	%r15, %rdx
 	callq	"unftp_0_3_0::core::str::utf8::from_utf8"
-	cmpb	$1, 112(%rsp)
-	jne	.Lunftp_0_3_0_BB24_6
+	cmpb	$1, 48(%rsp)
+	jne	.Lunftp_0_3_0_BB24_34
 	leaq	16(%rsp), %rdi
 	movq	%r14, %rsi
 	movq	%r15, %rdx
 	callq	"unftp_0_3_0::unftp_control_message::utf8::replaced"
 	testq	%r12, %r12
-	je	.Lunftp_0_3_0_BB24_9
+	je	.Lunftp_0_3_0_BB24_30
 	movq	%r14, %rdi
 	callq	unftp_0_3_0_rattle_dealloc@PLT
-	jmp	.Lunftp_0_3_0_BB24_9
-.Lunftp_0_3_0_BB24_6:
+	jmp	.Lunftp_0_3_0_BB24_30
+.Lunftp_0_3_0_BB24_4:
+	movq	56(%rsp), %r12
+	movq	64(%rsp), %r15
+	testq	%r15, %r15
+	je	.Lunftp_0_3_0_BB24_5
+	movb	$1, %bpl
+	js	.Lunftp_0_3_0_BB24_7
+	movl	$1, %esi
+	movq	%r15, %rdi
+	callq	unftp_0_3_0_rattle_alloc@PLT
+	xorl	%r14d, %r14d
+	movl	$0, %ecx
+	testb	$1, %al
+	je	.Lunftp_0_3_0_BB24_28
+	movq	%rdx, %r14
+	jmp	.Lunftp_0_3_0_BB24_10
+.Lunftp_0_3_0_BB24_34:
 	movb	$0, 16(%rsp)
 	movq	%r14, 24(%rsp)
 	movq	%r15, 32(%rsp)
 	movq	%r12, 40(%rsp)
-.Lunftp_0_3_0_BB24_9:
-	movzbl	16(%rsp), %eax
-	movq	24(%rsp), %rcx
-	movq	%rcx, 56(%rsp)
-	movq	32(%rsp), %rcx
-	movq	%rcx, 64(%rsp)
-	movq	40(%rsp), %rcx
-	movq	%rcx, 72(%rsp)
+.Lunftp_0_3_0_BB24_30:
+	movzbl	16(%rsp), %ebp
+	movq	24(%rsp), %r14
+	jmp	.Lunftp_0_3_0_BB24_31
+.Lunftp_0_3_0_BB24_5:
+	leaq	15(%rsp), %r14
 .Lunftp_0_3_0_BB24_10:
-	movq	56(%rsp), %rcx
-	movb	%al, (%rbx)
-	movq	%rcx, 8(%rbx)
-	movq	64(%rsp), %rax
+	movq	%r14, %rcx
+	subq	%r12, %rcx
+	cmpq	%r15, %rcx
+	jae	.Lunftp_0_3_0_BB24_39
+	xorl	%eax, %eax
+	cmpq	$4, %r15
+	jb	.Lunftp_0_3_0_BB24_22
+	cmpq	$32, %rcx
+	jb	.Lunftp_0_3_0_BB24_22
+	cmpq	$32, %r15
+	jae	.Lunftp_0_3_0_BB24_15
+	xorl	%eax, %eax
+	jmp	.Lunftp_0_3_0_BB24_19
+.Lunftp_0_3_0_BB24_39:
+	movq	%r14, %rdi
+	movq	%r12, %rsi
+	movq	%r15, %rdx
+	callq	memmove@PLT
+	jmp	.Lunftp_0_3_0_BB24_27
+.Lunftp_0_3_0_BB24_7:
+	xorl	%r14d, %r14d
+	xorl	%ecx, %ecx
+	jmp	.Lunftp_0_3_0_BB24_28
+.Lunftp_0_3_0_BB24_15:
+	movq	%r15, %rax
+	andq	$-32, %rax
+	xorl	%ecx, %ecx
+	.p2align	4
+.Lunftp_0_3_0_BB24_16:
+	movups	(%r12,%rcx), %xmm0
+	movups	16(%r12,%rcx), %xmm1
+	movups	%xmm0, (%r14,%rcx)
+	movups	%xmm1, 16(%r14,%rcx)
+	addq	$32, %rcx
+	cmpq	%rcx, %rax
+	jne	.Lunftp_0_3_0_BB24_16
+	cmpq	%rax, %r15
+	je	.Lunftp_0_3_0_BB24_27
+	testb	$28, %r15b
+	je	.Lunftp_0_3_0_BB24_22
+.Lunftp_0_3_0_BB24_19:
+	movq	%rax, %rcx
+	movq	%r15, %rax
+	andq	$-4, %rax
+	.p2align	4
+.Lunftp_0_3_0_BB24_20:
+	movl	(%r12,%rcx), %edx
+	movl	%edx, (%r14,%rcx)
+	addq	$4, %rcx
+	cmpq	%rcx, %rax
+	jne	.Lunftp_0_3_0_BB24_20
+	cmpq	%rax, %r15
+	je	.Lunftp_0_3_0_BB24_27
+.Lunftp_0_3_0_BB24_22:
+	movq	%r15, %rdx
+	movq	%rax, %rcx
+	andq	$3, %rdx
+	je	.Lunftp_0_3_0_BB24_25
+	movq	%rax, %rcx
+	.p2align	4
+.Lunftp_0_3_0_BB24_24:
+	movzbl	(%r12,%rcx), %esi
+	movb	%sil, (%r14,%rcx)
+	incq	%rcx
+	decq	%rdx
+	jne	.Lunftp_0_3_0_BB24_24
+.Lunftp_0_3_0_BB24_25:
+	subq	%r15, %rax
+	cmpq	$-4, %rax
+	ja	.Lunftp_0_3_0_BB24_27
+	.p2align	4
+.Lunftp_0_3_0_BB24_26:
+	movzbl	(%r12,%rcx), %eax
+	movb	%al, (%r14,%rcx)
+	movzbl	1(%r12,%rcx), %eax
+	movb	%al, 1(%r14,%rcx)
+	movzbl	2(%r12,%rcx), %eax
+	movb	%al, 2(%r14,%rcx)
+	movzbl	3(%r12,%rcx), %eax
+	movb	%al, 3(%r14,%rcx)
+	addq	$4, %rcx
+	cmpq	%rcx, %r15
+	jne	.Lunftp_0_3_0_BB24_26
+.Lunftp_0_3_0_BB24_27:
+	xorl	%ebp, %ebp
+	movq	%r15, %rcx
+.Lunftp_0_3_0_BB24_28:
+	movq	%rcx, 32(%rsp)
+	movq	%rcx, 40(%rsp)
+.Lunftp_0_3_0_BB24_31:
+	movq	32(%rsp), %rax
+	movq	%rax, 80(%rsp)
+	movq	40(%rsp), %rax
+	movq	%rax, 88(%rsp)
+	movb	%bpl, (%rbx)
+	movq	%r14, 8(%rbx)
+	movq	80(%rsp), %rax
 	movq	%rax, 16(%rbx)
-	movq	72(%rsp), %rax
+	movq	88(%rsp), %rax
 	movq	%rax, 24(%rbx)
-.Lunftp_0_3_0_BB24_11:
-	addq	$136, %rsp
+.Lunftp_0_3_0_BB24_38:
+	addq	$128, %rsp
 	popq	%rbx
 	popq	%r12
 	popq	%r14
 	popq	%r15
+	popq	%rbp
 	retq
 .Lunftp_0_3_0_func_end24:
 	.size	"unftp_0_3_0::unftp_control_message::sent::Sent::to_text", .Lunftp_0_3_0_func_end24-"unftp_0_3_0::unftp_control_message::sent::Sent::to_text"
@@ -12461,17 +12579,12 @@
 	pushq	%r13
 	pushq	%r12
 	pushq	%rbx
-	subq	$72, %rsp
+	subq	$56, %rsp
 	movq	%rdi, %rbx
-	xorps	%xmm0, %xmm0
-	movaps	%xmm0, 16(%rsp)
-	movq	$0, 32(%rsp)
-	movabsq	$6148914691236517205, %rax
-	cmpq	%rax, %rdx
-	cmovbq	%rdx, %rax
-	leaq	(%rax,%rax,2), %r12
-	testq	%rdx, %rdx
-	je	.Lunftp_0_3_0_BB25_34
+	movq	%rdx, %rax
+	addq	$32, %rax
+	movq	$-1, %r12
+	cmovaeq	%rax, %r12
 	testq	%r12, %r12
 	js	.Lunftp_0_3_0_BB25_33
 	movq	%rdx, %r14
@@ -12481,33 +12594,44 @@
 	callq	unftp_0_3_0_rattle_alloc@PLT
 	testb	$1, %al
 	je	.Lunftp_0_3_0_BB25_33
-	movq	%rbx, 40(%rsp)
-	movq	%rdx, 16(%rsp)
-	movq	$0, 24(%rsp)
-	movq	%r12, 32(%rsp)
-	jmp	.Lunftp_0_3_0_BB25_5
+	movq	%rbx, 24(%rsp)
+	movq	%rdx, (%rsp)
+	movq	$0, 8(%rsp)
+	movq	%r12, 16(%rsp)
+	testq	%r14, %r14
+	jne	.Lunftp_0_3_0_BB25_5
+.Lunftp_0_3_0_BB25_3:
+	movq	24(%rsp), %rcx
+	movb	$0, (%rcx)
+	movq	(%rsp), %rax
+	movq	%rax, 8(%rcx)
+	movq	8(%rsp), %rax
+	movq	%rax, 16(%rcx)
+	movq	16(%rsp), %rax
+	movq	%rax, 24(%rcx)
+	jmp	.Lunftp_0_3_0_BB25_34
 	.p2align	4
 .Lunftp_0_3_0_BB25_4:
 	addq	%r13, %r15
 	subq	%r13, %r14
-	je	.Lunftp_0_3_0_BB25_35
+	je	.Lunftp_0_3_0_BB25_3
 .Lunftp_0_3_0_BB25_5:
 	xorps	%xmm0, %xmm0
-	movaps	%xmm0, 48(%rsp)
-	movq	$0, 64(%rsp)
-	leaq	48(%rsp), %rdi
+	movaps	%xmm0, 32(%rsp)
+	movq	$0, 48(%rsp)
+	leaq	32(%rsp), %rdi
 	movq	%r15, %rsi
 	movq	%r14, %rdx
 	callq	"unftp_0_3_0::core::str::utf8::from_utf8"
-	cmpb	$0, 48(%rsp)
+	cmpb	$0, 32(%rsp)
 	movq	%r14, %r13
 	movq	%r14, %r12
 	je	.Lunftp_0_3_0_BB25_7
-	movq	56(%rsp), %r12
-	movzbl	65(%rsp), %eax
+	movq	40(%rsp), %r12
+	movzbl	49(%rsp), %eax
 	movq	%r14, %rcx
 	subq	%r12, %rcx
-	cmpb	$1, 64(%rsp)
+	cmpb	$1, 48(%rsp)
 	cmovneq	%rcx, %rax
 	cmpq	%rax, %rcx
 	cmovaeq	%rax, %rcx
@@ -12516,14 +12640,14 @@
 	cmovneq	%rcx, %r13
 	addq	%r12, %r13
 .Lunftp_0_3_0_BB25_7:
-	movq	24(%rsp), %rbp
-	movq	32(%rsp), %rbx
+	movq	8(%rsp), %rbp
+	movq	16(%rsp), %rbx
 	movq	%rbx, %rax
 	subq	%rbp, %rax
 	cmpq	%rax, %r12
 	ja	.Lunftp_0_3_0_BB25_31
 .Lunftp_0_3_0_BB25_8:
-	movq	16(%rsp), %rax
+	movq	(%rsp), %rax
 	leaq	(%rax,%rbp), %rdi
 	movq	%rdi, %rcx
 	subq	%r15, %rcx
@@ -12575,15 +12699,15 @@
 	callq	memmove@PLT
 .Lunftp_0_3_0_BB25_29:
 	addq	%r12, %rbp
-	movq	%rbp, 24(%rsp)
-	movq	%rbx, 32(%rsp)
+	movq	%rbp, 8(%rsp)
+	movq	%rbx, 16(%rsp)
 	cmpq	%r12, %r13
 	je	.Lunftp_0_3_0_BB25_4
-	leaq	16(%rsp), %rdi
+	movq	%rsp, %rdi
 	callq	"unftp_0_3_0::std_alloc::string::add_wide::<#c434390fa3fa721d>"
 	testb	%al, %al
 	je	.Lunftp_0_3_0_BB25_4
-	jmp	.Lunftp_0_3_0_BB25_37
+	jmp	.Lunftp_0_3_0_BB25_35
 .Lunftp_0_3_0_BB25_14:
 	cmpq	$32, %r12
 	jae	.Lunftp_0_3_0_BB25_16
@@ -12623,36 +12747,21 @@
 	je	.Lunftp_0_3_0_BB25_29
 	jmp	.Lunftp_0_3_0_BB25_23
 .Lunftp_0_3_0_BB25_31:
-	leaq	16(%rsp), %rdi
+	movq	%rsp, %rdi
 	movq	%r12, %rsi
 	callq	"unftp_0_3_0::std_alloc::vec::Vec::grow_amortized::<#1908c79f2a33ade2>"
 	testb	%al, %al
-	je	.Lunftp_0_3_0_BB25_37
-	movq	24(%rsp), %rbp
-	movq	32(%rsp), %rbx
+	je	.Lunftp_0_3_0_BB25_35
+	movq	8(%rsp), %rbp
+	movq	16(%rsp), %rbx
 	jmp	.Lunftp_0_3_0_BB25_8
 .Lunftp_0_3_0_BB25_33:
 	movb	$1, (%rbx)
 	xorps	%xmm0, %xmm0
 	movups	%xmm0, 8(%rbx)
 	movq	$0, 24(%rbx)
-	jmp	.Lunftp_0_3_0_BB25_36
 .Lunftp_0_3_0_BB25_34:
-	movq	%rbx, 40(%rsp)
-	leaq	15(%rsp), %rax
-	movq	%rax, 16(%rsp)
-	movq	%r12, 32(%rsp)
-.Lunftp_0_3_0_BB25_35:
-	movq	40(%rsp), %rcx
-	movb	$0, (%rcx)
-	movq	16(%rsp), %rax
-	movq	%rax, 8(%rcx)
-	movq	24(%rsp), %rax
-	movq	%rax, 16(%rcx)
-	movq	32(%rsp), %rax
-	movq	%rax, 24(%rcx)
-.Lunftp_0_3_0_BB25_36:
-	addq	$72, %rsp
+	addq	$56, %rsp
 	popq	%rbx
 	popq	%r12
 	popq	%r13
@@ -12660,18 +12769,18 @@
 	popq	%r15
 	popq	%rbp
 	retq
-.Lunftp_0_3_0_BB25_37:
-	cmpq	$0, 32(%rsp)
-	je	.Lunftp_0_3_0_BB25_39
-	movq	16(%rsp), %rdi
+.Lunftp_0_3_0_BB25_35:
+	cmpq	$0, 16(%rsp)
+	je	.Lunftp_0_3_0_BB25_37
+	movq	(%rsp), %rdi
 	callq	unftp_0_3_0_rattle_dealloc@PLT
-.Lunftp_0_3_0_BB25_39:
-	movq	40(%rsp), %rax
+.Lunftp_0_3_0_BB25_37:
+	movq	24(%rsp), %rax
 	movb	$1, (%rax)
 	xorps	%xmm0, %xmm0
 	movups	%xmm0, 8(%rax)
 	movq	$0, 24(%rax)
-	jmp	.Lunftp_0_3_0_BB25_36
+	jmp	.Lunftp_0_3_0_BB25_34
 .Lunftp_0_3_0_func_end25:
 	.size	"unftp_0_3_0::unftp_control_message::utf8::replaced", .Lunftp_0_3_0_func_end25-"unftp_0_3_0::unftp_control_message::utf8::replaced"
 

@@ -87,7 +87,7 @@ impl Decoder for FtpCodec {
     }
 }
 
-// a function of its own, so that few bytes without a line feed make no room for an event
+// a function of its own, so that the path without a call needs no stack for an event
 #[inline(never)]
 fn decode_by_call(
     lines: &mut Lines,

@@ -117,7 +117,7 @@ impl Decoder for FtpLineCodec {
     }
 }
 
-// a function of its own, so that few bytes without a line feed make no room for a line
+// a function of its own, so that the path without a call needs no stack for a line
 #[inline(never)]
 fn decode_by_call(lines: &mut Lines, src: &mut BytesMut) -> Result<Option<OwnedLine>, CodecError> {
     let taken = lines.take(src, Event::into_owned)?;

@@ -12,7 +12,7 @@ pub const LINE_LIMIT: usize = 8192;
 /// How many bytes the area for a name and a value has at first.
 const AREA: usize = 512;
 
-/// Fewer new bytes than these are scanned for a line feed here. For so few a call costs more.
+/// Fewer new bytes than these are searched for a line feed here, since a call would take longer.
 const FEW: usize = 16;
 
 /// Takes the lines of a connection, whose pending bytes its owner keeps.
@@ -48,9 +48,9 @@ impl Lines {
         self.connection.skipping != 0
     }
 
-    /// Whether nothing is to be taken yet, as is seen without a call of the library: few bytes have
-    /// come since the last one, and the first line is neither complete nor too long. The pending
-    /// bytes are then scanned.
+    /// Whether no line can be taken yet, as is seen without a call of the library: nothing is
+    /// pending, or fewer than `FEW` bytes are new and the first line is neither complete nor too
+    /// long. The connection is then as a call would leave it. Else the library has to be called.
     #[inline]
     pub(crate) fn passes_over(&mut self, pending: &[u8]) -> bool {
         let ffi::Connection { limit, offset, skipping } = &mut self.connection;
@@ -72,7 +72,7 @@ impl Lines {
         passes
     }
 
-    /// As `passes_over`, for an owner of many bytes, to which it is one comparison.
+    /// As `passes_over`, for a caller that mostly has many new bytes: then it is one comparison.
     #[cfg(feature = "tokio-util")]
     #[inline]
     pub(crate) fn passes_over_few(&mut self, pending: &[u8]) -> bool {
@@ -85,8 +85,8 @@ impl Lines {
         self.passes_over(pending)
     }
 
-    /// Takes the first line of the pending bytes, if it is complete, where `passes_over` is false.
-    /// `keep` is given its event.
+    /// Takes the first line of the pending bytes, if it is complete. `keep` is given its event. The
+    /// offset has to be within them, as it is after `passes_over` and `new`.
     // inlined, what it has taken is not moved
     #[inline]
     pub(crate) fn take<'a, E>(
@@ -94,9 +94,6 @@ impl Lines {
         pending: &[u8],
         keep: impl FnOnce(Event<'a>) -> E,
     ) -> Result<Taken<E>, Error> {
-        if pending.is_empty() {
-            return Ok(Taken { used: 0, event: None });
-        }
         // a name and a value most often take no more bytes than their line
         let expected = pending.len().min(LINE_LIMIT);
         if self.area.len() < expected {

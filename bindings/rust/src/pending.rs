@@ -33,7 +33,7 @@ impl Pending {
     }
 
     /// The same with another limit; 0 is none. A line of more bytes, its line feed counted, is
-    /// refused, and at most that many bytes stay pending once there is no event.
+    /// refused, and fewer bytes than that stay pending once there is no event.
     pub fn with_limit(limit: usize) -> Pending {
         Pending { received: Vec::new(), used: 0, line: 0, lines: Lines::new(limit) }
     }
@@ -130,7 +130,7 @@ fn take_line<'a>(
     take_line_by_call(lines, received, used, line)
 }
 
-// a function of its own, so that few bytes without a line feed make no room for an event
+// a function of its own, so that the path without a call needs no stack for an event
 #[inline(never)]
 fn take_line_by_call<'a>(
     lines: &'a mut Lines,

@@ -62,7 +62,7 @@ fn a_line_over_the_limit_is_refused() -> Result<(), Error> {
     Ok(())
 }
 
-/// The events of an input that comes in pieces of this size. At most `limit` bytes stay pending.
+/// The events of an input that comes in pieces of this size. Fewer than `limit` bytes stay pending.
 fn events_of_pieces(limit: usize, input: &[u8], size: usize) -> Result<Vec<Event<'static>>, Error> {
     let mut pending = Pending::with_limit(limit);
     let mut events = Vec::new();
@@ -71,7 +71,7 @@ fn events_of_pieces(limit: usize, input: &[u8], size: usize) -> Result<Vec<Event
         while let Some(event) = pending.next_event()? {
             events.push(event.into_owned());
         }
-        assert!(limit == 0 || pending.bytes().len() <= limit);
+        assert!(limit == 0 || pending.bytes().len() < limit);
     }
     Ok(events)
 }

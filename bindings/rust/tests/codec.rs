@@ -51,14 +51,19 @@ impl AsyncRead for Pieces<'_> {
     }
 }
 
-/// The events of a stream of pieces, and what its end is: how many bytes are left.
-async fn events_of(limit: usize, pieces: Vec<&[u8]>) -> String {
-    let mut framed = FramedRead::new(Pieces::new(pieces), FtpCodec::with_limit(limit));
+/// The events that a codec takes from a stream of pieces, and what its end is: how many bytes are
+/// left.
+async fn events_of<D: Decoder<Error = CodecError>>(
+    codec: D,
+    event_of: fn(D::Item) -> Event<'static>,
+    pieces: Vec<&[u8]>,
+) -> String {
+    let mut framed = FramedRead::new(Pieces::new(pieces), codec);
     let mut parts = Vec::new();
     let mut end = "left=0".to_string();
     while let Some(event) = framed.next().await {
         match event {
-            Ok(event) => parts.push(shown_decoded(&event)),
+            Ok(item) => parts.push(shown_decoded(&event_of(item))),
             Err(CodecError::Incomplete { left }) => {
                 assert_eq!(framed.read_buffer().len(), left);
                 end = format!("left={left}{}", if left == 0 { " skipping" } else { "" });
@@ -76,8 +81,13 @@ async fn any_pieces_give_the_events_of_the_vectors() {
         for (at, (words, answer)) in calls(file, &["decode"]).into_iter().enumerate() {
             let input: Vec<u8> = words[1..].iter().flat_map(|word| bytes(word)).collect();
             for size in sizes(&input) {
-                let events = events_of(limit(&words[0]), pieces(&input, size, at as u64)).await;
+                let (limit, pieces) = (limit(&words[0]), pieces(&input, size, at as u64));
+                let codec = FtpCodec::with_limit(limit);
+                let events = events_of(codec, |event| event, pieces.clone()).await;
                 assert_eq!(events, without_lefts(&answer), "{words:?} by {size}");
+                let codec = FtpLineCodec::with_limit(limit);
+                let events = events_of(codec, |line| line.event, pieces).await;
+                assert_eq!(events, without_lefts(&answer), "{words:?} by {size}, with lines");
             }
         }
     }
