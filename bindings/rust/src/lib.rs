@@ -1,7 +1,7 @@
 //! The control protocol layer of an FTP server: bytes of a control connection become typed commands
 //! or named refusals, and replies become bytes (RFC 959). The work is done by calls that are proved
 //! for all inputs, whose machine code the crate has with it; this crate makes them safe and typed.
-//! Only whether a few new bytes have a line feed it looks for by itself.
+//! By itself it only tests whether a few new bytes have a line feed.
 //!
 //! It is a layer and no server: sockets, TLS, data connections, storage and accounts are the
 //! caller's.
