@@ -12,6 +12,8 @@ pub mod LossyPathLemmas
 pub mod TypedLemmas
 pub mod LaneLemmas
 pub mod LineFeedLemmas
+pub mod BlockLemmas
+pub mod FinderLemmas
 pub mod FirstLineLemmas
 pub mod CallLemmas
 pub mod MemoryLemmas

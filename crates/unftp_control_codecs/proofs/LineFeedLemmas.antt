@@ -7,12 +7,12 @@ use lib.Count.{count_trailing_zeros}
 use Rattle.std.proofs.lemmas.Bool.{cases_eq, lt-ltb, ltb-true}
 use Rattle.std.proofs.lemmas.Grind.{common_steps}
 use Rattle.std.proofs.lemmas.List.{length-drop, take_all, take_more}
-use Rattle.std.proofs.lemmas.Simd.{length-chunk, run_in_chunk_fails, run_in_chunk_stops, trailing_mask_l}
+use Rattle.std.proofs.lemmas.Simd.{length-chunk, none_from_empty_mask, run_in_chunk_fails, run_in_chunk_stops, trailing_mask_l}
 use Rattle.std.proofs.Math.Seq.{drop-cons}
 use Rattle.unftp_control_defs.specs.Bytes.{Bytes, LF, Lacks}
 use Rattle.unftp_control_defs.specs.Events.{exceeds}
-use Rattle.unftp_control_codecs.specs.LineFeed.{is_line_feed, line_feed_from}
-use Rattle.unftp_control_codecs.proofs.LaneLemmas.{found, found_is, none_found}
+use Rattle.unftp_control_codecs.specs.LineFeed.{is_line_feed, line_feed_from, line_feeds}
+use Rattle.unftp_control_codecs.proofs.LaneLemmas.{found_is}
 
 position_cons : (b : ℕ) (bytes : Bytes) → position is_line_feed (b ∷ bytes)
     ≡ (if is_line_feed b then Some 0 else option_map suc (position is_line_feed bytes))
@@ -112,37 +112,40 @@ module _ (bytes : Bytes) (from : ℕ) where
       ∙ step bytes (from + n) (omega (arith, room)) false (none (from + n) (omega arith) (omega arith))
       ∙ ap (line_feed_from bytes) (omega arith)
 
-  module _ (n : ℕ) (room : from + n ≤ length bytes) (few : n ≤ 64) where
-    -- a bit for each of n bytes, 1 where it is a line feed
-    abbrev feeds : ℕ
-    feeds = mask_l (map (top 7) (zip2 (λ a b. cond (eqb a b) 255 0)
-        (chunk 0 n (take (length bytes - from) (drop from bytes))) (replicate n LF))) % 2 ^ 64
+  -- n bytes, none of which is a line feed
+  pub none_among : (n : ℕ) → from + n ≤ length bytes → line_feeds (take n (drop from bytes)) ≡ 0
+      → line_feed_from bytes from ≡ line_feed_from bytes (from + n)
+  none_among n room none =
+      passed_over n room (none_from_empty_mask is_line_feed bytes from n 0 room none)
 
-    feeds_found : feeds ≡ found bytes from n eqb LF
-    feeds_found = ap (λ rest. mask_l (map (top 7) (zip2 (λ a b. cond (eqb a b) 255 0)
+  module _ (n : ℕ) (room : from + n ≤ length bytes) (few : n ≤ 64) where
+    -- as they are compared
+    pub feeds_compared : mask_l (map (top 7) (zip2 (λ a b. cond (eqb a b) 255 0)
+        (chunk 0 n (take (length bytes - from) (drop from bytes))) (replicate n LF))) % 2 ^ 64
+        ≡ line_feeds (take n (drop from bytes))
+    feeds_compared = ap (λ rest. mask_l (map (top 7) (zip2 (λ a b. cond (eqb a b) 255 0)
         (chunk 0 n rest) (replicate n LF))) % 2 ^ 64)
         (take_all (length bytes - from) (drop from bytes) (omega (arith, length-drop from bytes)))
+        ∙ found_is bytes from n room few eqb LF
 
-    pub none_among : feeds ≡ 0 → line_feed_from bytes from ≡ line_feed_from bytes (from + n)
-    none_among none =
-        passed_over n room (none_found bytes from n room few eqb LF (sym feeds_found ∙ none))
-
-    pub first_among : feeds ≢ 0
-        → line_feed_from bytes from ≡ Some (from + count_trailing_zeros 64 feeds)
+    pub first_among : line_feeds (take n (drop from bytes)) ≢ 0
+        → (count_trailing_zeros 64 (line_feeds (take n (drop from bytes))) < n)
+        × (line_feed_from bytes from
+        ≡ Some (from + count_trailing_zeros 64 (line_feeds (take n (drop from bytes)))))
     first_among some =
         let block = chunk from n bytes in
         let long : length block ≡ n = length-chunk from n bytes room in
-        let is = feeds_found ∙ found_is bytes from n room few eqb LF in
-        let set : 0 < mask_l (map is_line_feed block) = omega (arith, some, is) in
-        let before = count_trailing_zeros 64 feeds in
+        let set : 0 < mask_l (map is_line_feed block) = omega (arith, some) in
+        let before = count_trailing_zeros 64 (line_feeds (take n (drop from bytes))) in
         let counted : before ≡ prefix_len passes block =
-        ap (count_trailing_zeros 64) is
-        ∙ trailing_mask_l is_line_feed 64 block (omega (arith, long, few)) set in
-        let within : before < n = omega (arith, counted, long, some_stops block set) in
-        passed_over before (omega (arith, within, room))
-        (run_in_chunk_fails is_line_feed bytes from n before 0 room counted)
-        ∙ step bytes (from + before) (omega (arith, within, room)) true
-        (run_in_chunk_stops is_line_feed bytes from n before 0 room counted within)
+        trailing_mask_l is_line_feed 64 block (omega (arith, long, few)) set in
+        let within : before < n = omega (arith, counted, long, some_stops block set) in (
+          within,
+          passed_over before (omega (arith, within, room))
+              (run_in_chunk_fails is_line_feed bytes from n before 0 room counted)
+              ∙ step bytes (from + before) (omega (arith, within, room)) true
+              (run_in_chunk_stops is_line_feed bytes from n before 0 room counted within),
+        )
 
 -- ---- of a limit
 

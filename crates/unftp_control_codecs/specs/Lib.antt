@@ -5,6 +5,7 @@ pub mod WordsMeaning
 pub mod Codec
 pub mod LineFeed
 pub mod FirstLine
+pub mod Finder
 pub mod Decoding
 pub mod Calls
 pub mod Encoding

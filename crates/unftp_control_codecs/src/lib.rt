@@ -2,8 +2,8 @@
 //! one.
 #![tactic(auto)]
 
-ghost use Rattle.std.specs.Prelude.{◌≡◌, ◌+◌, ◌-◌, ◌≤◌, if◌then◌else◌, false, None, IsTrue, ⊤, ◌++◌, length, drop, vec_len, Some, Ok, Err, MatchOption, IsOk, OnOk, OnErr, IfErr};
-ghost use Rattle.unftp_control_defs.specs.Events.{out_of_memory};
+ghost use Rattle.std.specs.Prelude.{◌≡◌, ◌||◌, ◌+◌, ◌-◌, ◌≤◌, if◌then◌else◌, false, None, IsTrue, ⊤, ◌++◌, length, drop, vec_len, Some, Ok, Err, MatchOption, IsOk, OnOk, OnErr, IfErr};
+ghost use Rattle.unftp_control_defs.specs.Events.{exceeds, out_of_memory};
 ghost use Rattle.unftp_control_defs.specs.FtpReply.{Nothing, encoded};
 ghost use Rattle.unftp_control_defs.specs.Room.{LacksRoom};
 ghost use Rattle.unftp_control_message.specs.ErrorMeaning.{fault_of};
@@ -13,12 +13,14 @@ ghost use Rattle.unftp_control_codecs.specs.FirstLine.{first_line, goes_on, rese
 ghost use Rattle.unftp_control_codecs.specs.Decoding.{Decodes, IsOutOfMemory};
 
 mod encoding;
+mod finder;
 pub mod line_parser;
 mod lines;
 mod scan;
 
 use crate::encoding::append_reply;
 pub use crate::encoding::begins_with_digit;
+pub use crate::finder::LineFinder;
 use crate::line_parser::parse;
 pub use crate::lines::{EncodeLinesError, encode_lines, is_reply_code};
 use crate::scan::{Scan, ScanCount};
@@ -148,9 +150,8 @@ impl FtpCodec {
         self.place
     }
 
-    /// How many bytes were scanned for a line feed: those up to each that was found, and all where
-    /// none was. Up to fifteen after it may be read with it, and count when they are scanned for
-    /// the next. Only contracts see it.
+    /// How many bytes were compared with a line feed: those up to each that was found, and all where
+    /// none was. Only contracts see it.
     pub fn tests(&self) -> Count
         ensures { result ≡ self.now.tests }
     {
@@ -238,11 +239,7 @@ impl FtpCodec {
     fn is_too_long(&self, length: usize) -> bool
         ensures { result ≡ is_too_long self.now (length + 1) }
     {
-        match self.limit {
-            _ if self.skipping => true,
-            Some(limit) => limit <= length,
-            None => false,
-        }
+        is_too_long(self.limit, self.skipping, length)
     }
 
     /// Goes on after so many bytes without a line feed: returns how many of them are dropped, which
@@ -307,6 +304,17 @@ impl FtpCodec {
         // the result is large, and would be copied where the reply were dropped after it
         drop(reply);
         Ok(appended?)
+    }
+}
+
+/// Whether a line is too long, where so many bytes come before its line feed.
+fn is_too_long(limit: Option<usize>, skipping: bool, length: usize) -> bool
+    ensures { result ≡ skipping || exceeds limit (length + 1) }
+{
+    match limit {
+        _ if skipping => true,
+        Some(limit) => limit <= length,
+        None => false,
     }
 }
 

@@ -1,6 +1,6 @@
-//! The one way by which the codec scans bytes for a line feed.
-ghost use Rattle.std.specs.Prelude.{◌≡◌, ◌+◌, ◌-◌, ◌<◌, ◌≤◌, length, Some, MatchOption};
-ghost use Rattle.unftp_control_codecs.specs.LineFeed.{line_feed_from};
+//! The one way by which codecs and decoders scan bytes for a line feed.
+ghost use Rattle.std.specs.Prelude.{◌≡◌, ◌+◌, ◌-◌, ◌<◌, ◌≤◌, length, MatchOption};
+ghost use Rattle.unftp_control_codecs.specs.LineFeed.{IsBlock, line_feed_from};
 
 use std::marker::Model;
 use std::simd::prelude::*;
@@ -8,16 +8,17 @@ use unftp_control_defs::count::Count;
 
 const LINE_FEED: u8 = b'\n';
 
-/// How many bytes are read at once, while so many are left.
-const BLOCK: usize = 16;
+/// How many bytes are compared at once, while so many are left.
+const BLOCK: usize = 32;
 
-/// How many are, where fewer than `BLOCK` are left.
-const HALF_BLOCK: usize = 8;
+/// How many are, where fewer are left: 16, then 8, then 4. The last ones are compared one by one.
+const HALF_BLOCK: usize = 16;
 
-/// How many are, where fewer than `HALF_BLOCK` are left. The last ones are read one by one.
-const QUARTER_BLOCK: usize = 4;
+const QUARTER_BLOCK: usize = 8;
 
-/// How many bytes were scanned, a number that only contracts see.
+const FEW: usize = 4;
+
+/// How many bytes were compared with a line feed, a number that only contracts see.
 #[derive(Drop)]
 pub(crate) struct ScanCount {
     scanned: Count,
@@ -41,7 +42,7 @@ impl ScanCount {
         }
     }
 
-    /// The number of bytes scanned.
+    /// The number of bytes compared.
     pub(crate) fn count(&self) -> Count
         ensures { result ≡ self.now }
     {
@@ -56,8 +57,17 @@ impl ScanCount {
     }
 }
 
-/// A slice that is scanned for a line feed: it is private, and only `line_feed_among` reads its
-/// bytes and raises the count.
+/// Bytes that were compared at once: where they begin, how many they are, and a bit for each, 1 where
+/// it is a line feed, the lowest for the first.
+#[derive(Clone, Copy)]
+pub(crate) struct Block {
+    pub(crate) start: usize,
+    pub(crate) length: usize,
+    pub(crate) line_feeds: u64,
+}
+
+/// A slice that is scanned for a line feed: it is private, and only `compare` reads its bytes, and
+/// counts each that it reads.
 #[derive(Drop)]
 pub(crate) struct Scan<'a, 'c> {
     bytes: &'a [u8],
@@ -65,7 +75,7 @@ pub(crate) struct Scan<'a, 'c> {
 }
 
 impl<'a, 'c> Scan<'a, 'c> {
-    /// Scans these bytes, and counts each that it scans here.
+    /// Scans these bytes, and counts each that it compares here.
     pub(crate) fn over(bytes: &'a [u8], tests: &'c mut ScanCount) -> Scan<'a, 'c>
         ensures bytes { result.bytes.now ≡ bytes.now }
         ensures tests { result.tests.now ≡ tests.old }
@@ -75,7 +85,7 @@ impl<'a, 'c> Scan<'a, 'c> {
     }
 
     /// The first line feed at or after `from`. Each byte from there to it, or to the end, is
-    /// scanned once.
+    /// compared once, and none after it.
     pub(crate) fn find_line_feed(&mut self, from: usize) -> Option<usize>
         requires { from ≤ length self.old.bytes.now }
         ensures found { result ≡ line_feed_from self.old.bytes.now from }
@@ -86,90 +96,119 @@ impl<'a, 'c> Scan<'a, 'c> {
         ensures same_reference { self.new.tests.ghost_name ≡ self.old.tests.ghost_name }
     {
         let mut at = from;
-        // tested first, so that a piece of a few bytes takes the least time
-        if self.bytes.len() - at < HALF_BLOCK {
-            return self.line_feed_among_few(at);
-        }
-        while at + BLOCK <= self.bytes.len() {
-            if let Some(line_feed) = self.line_feed_among::<BLOCK>(at) {
-                return Some(line_feed);
-            }
-            at += BLOCK;
-        }
-        if self.bytes.len() - at < HALF_BLOCK {
-            return self.line_feed_among_few(at);
-        }
-        if let Some(line_feed) = self.line_feed_among::<HALF_BLOCK>(at) {
-            return Some(line_feed);
-        }
-        self.line_feed_among_few(at + HALF_BLOCK)
-    }
-
-    /// The same, where few bytes are left.
-    #[inline(always)]
-    fn line_feed_among_few(&mut self, from: usize) -> Option<usize>
-        requires { from ≤ length self.old.bytes.now }
-        ensures found { result ≡ line_feed_from self.old.bytes.now from }
-        ensures tests { MatchOption result
-            (self.new.tests.now ≡ self.old.tests.now + (length self.old.bytes.now - from))
-            (λ k. self.new.tests.now ≡ self.old.tests.now + (k + 1 - from)) }
-        ensures bytes { self.new.bytes.now ≡ self.old.bytes.now }
-        ensures same_reference { self.new.tests.ghost_name ≡ self.old.tests.ghost_name }
-    {
-        if self.bytes.len() - from < QUARTER_BLOCK {
-            return self.line_feed_by_bytes(from);
-        }
-        if let Some(line_feed) = self.line_feed_among::<QUARTER_BLOCK>(from) {
-            return Some(line_feed);
-        }
-        self.line_feed_by_bytes(from + QUARTER_BLOCK)
-    }
-
-    /// The same, byte by byte.
-    #[inline(always)]
-    fn line_feed_by_bytes(&mut self, from: usize) -> Option<usize>
-        requires { from ≤ length self.old.bytes.now }
-        ensures found { result ≡ line_feed_from self.old.bytes.now from }
-        ensures tests { MatchOption result
-            (self.new.tests.now ≡ self.old.tests.now + (length self.old.bytes.now - from))
-            (λ k. self.new.tests.now ≡ self.old.tests.now + (k + 1 - from)) }
-        ensures bytes { self.new.bytes.now ≡ self.old.bytes.now }
-        ensures same_reference { self.new.tests.ghost_name ≡ self.old.tests.ghost_name }
-    {
-        let mut at = from;
         while at < self.bytes.len() {
-            if let Some(line_feed) = self.line_feed_among::<1>(at) {
-                return Some(line_feed);
+            if self.compare::<1>(at).line_feeds != 0 {
+                return Some(at);
             }
             at += 1;
         }
         None
     }
 
-    /// The first line feed at or after `from`, if it is one of the next `N` bytes. These are read at
-    /// once. Those up to it count as scanned, or all where there is none.
+    /// Compares bytes by blocks, from `from` on: returns the first block with a line feed, or none
+    /// at the end. Each byte from `from` to the end of that block is compared once.
     #[inline(always)]
-    fn line_feed_among<const N: usize>(&mut self, from: usize) -> Option<usize>
-        requires lanes { (0 < N) × (N ≤ 64) }
-        requires room { from + N ≤ length self.old.bytes.now }
-        ensures found { MatchOption result
-            (line_feed_from self.old.bytes.now from
-            ≡ line_feed_from self.old.bytes.now (from + N))
-            (λ k. line_feed_from self.old.bytes.now from ≡ Some k) }
-        ensures tests { MatchOption result
-            (self.new.tests.now ≡ self.old.tests.now + N)
-            (λ k. self.new.tests.now ≡ self.old.tests.now + (k + 1 - from)) }
+    pub(crate) fn next_block(&mut self, from: usize) -> Block
+        requires { from ≤ length self.old.bytes.now }
+        ensures block { IsBlock result self.old.bytes.now }
+        ensures before { line_feed_from self.old.bytes.now from
+            ≡ line_feed_from self.old.bytes.now result.start }
+        ensures at_end { result.line_feeds ≡ 0
+            → (result.start ≡ length self.old.bytes.now) × (result.length ≡ 0) }
+        ensures tests { self.new.tests.now + from
+            ≡ self.old.tests.now + (result.start + result.length) }
+        ensures never_fewer { self.old.tests.now ≤ self.new.tests.now }
         ensures bytes { self.new.bytes.now ≡ self.old.bytes.now }
         ensures same_reference { self.new.tests.ghost_name ≡ self.old.tests.ghost_name }
     {
-        let block = Simd::<u8, N>::from_slice(&self.bytes[from..]);
-        let found = block.simd_eq(Simd::splat(LINE_FEED)).to_bitmask();
-        if found == 0 {
-            self.tests.add_scanned(N);
-            return None;
+        let mut at = from;
+        let mut left = self.bytes.len() - from;
+        // tested first, so that a piece of a few bytes takes the least time
+        if left < QUARTER_BLOCK {
+            return self.next_of_few(at);
         }
-        let before = found.trailing_zeros() as usize;
-        self.tests.add_scanned(before + 1);
-        Some(from + before)
+        while left >= BLOCK {
+            let block = self.compare::<BLOCK>(at);
+            if block.line_feeds != 0 {
+                return block;
+            }
+            at += BLOCK;
+            left -= BLOCK;
+        }
+        if left >= HALF_BLOCK {
+            let block = self.compare::<HALF_BLOCK>(at);
+            if block.line_feeds != 0 {
+                return block;
+            }
+            at += HALF_BLOCK;
+            left -= HALF_BLOCK;
+        }
+        if left >= QUARTER_BLOCK {
+            let block = self.compare::<QUARTER_BLOCK>(at);
+            if block.line_feeds != 0 {
+                return block;
+            }
+            at += QUARTER_BLOCK;
+        }
+        self.next_of_few(at)
+    }
+
+    /// The same, where few bytes are left.
+    #[inline(always)]
+    fn next_of_few(&mut self, from: usize) -> Block
+        requires { from ≤ length self.old.bytes.now }
+        ensures block { IsBlock result self.old.bytes.now }
+        ensures before { line_feed_from self.old.bytes.now from
+            ≡ line_feed_from self.old.bytes.now result.start }
+        ensures at_end { result.line_feeds ≡ 0
+            → (result.start ≡ length self.old.bytes.now) × (result.length ≡ 0) }
+        ensures tests { self.new.tests.now + from
+            ≡ self.old.tests.now + (result.start + result.length) }
+        ensures never_fewer { self.old.tests.now ≤ self.new.tests.now }
+        ensures bytes { self.new.bytes.now ≡ self.old.bytes.now }
+        ensures same_reference { self.new.tests.ghost_name ≡ self.old.tests.ghost_name }
+    {
+        let mut at = from;
+        if self.bytes.len() - at >= FEW {
+            let block = self.compare::<FEW>(at);
+            if block.line_feeds != 0 {
+                return block;
+            }
+            at += FEW;
+        }
+        while at < self.bytes.len() {
+            let block = self.compare::<1>(at);
+            if block.line_feeds != 0 {
+                return block;
+            }
+            at += 1;
+        }
+        Block {
+            start: at,
+            length: 0,
+            line_feeds: 0,
+        }
+    }
+
+    /// Compares the next `N` bytes with a line feed, at once.
+    #[inline(always)]
+    fn compare<const N: usize>(&mut self, start: usize) -> Block
+        requires lanes { (0 < N) × (N ≤ 32) }
+        requires room { start + N ≤ length self.old.bytes.now }
+        ensures block { IsBlock result self.old.bytes.now }
+        ensures place { (result.start ≡ start) × (result.length ≡ N) }
+        ensures none { result.line_feeds ≡ 0 → line_feed_from self.old.bytes.now start
+            ≡ line_feed_from self.old.bytes.now (start + N) }
+        ensures tests { self.new.tests.now ≡ self.old.tests.now + N }
+        ensures bytes { self.new.bytes.now ≡ self.old.bytes.now }
+        ensures same_reference { self.new.tests.ghost_name ≡ self.old.tests.ghost_name }
+    {
+        self.tests.add_scanned(N);
+        let bytes = Simd::<u8, N>::from_slice(&self.bytes[start..]);
+        Block {
+            start,
+            length: N,
+            line_feeds: bytes.simd_eq(Simd::splat(LINE_FEED)).to_bitmask(),
+        }
     }
 }

@@ -1,5 +1,5 @@
 -- An engine after a piece.
-use Rattle.std.proofs.Common.{◌++◌, ◌≡◌, ℕ, ◌≤◌, ◌+◌, ◌-◌, Bool, true, false, ltb, [], Option, Some, length, refl, sym, ap, ◌∙◌, arith}
+use Rattle.std.proofs.Common.{◌++◌, ◌≡◌, ℕ, ◌≤◌, ◌+◌, Bool, true, false, ltb, [], Option, Some, length, refl, sym, ap, ◌∙◌, arith}
 use Rattle.std.specs.Prelude.{if◌then◌else◌}
 use Rattle.std.proofs.lemmas.Bool.{ltb-false}
 use Rattle.unftp_control_defs.specs.Bytes.{Bytes}
@@ -7,8 +7,8 @@ use Rattle.unftp_control_defs.specs.Events.{exceeds}
 use Rattle.unftp_control_defs.specs.Lines.{incomplete_line}
 use Rattle.unftp_control_defs.specs.Run.{SessionLaw, ends_for, unread}
 use Rattle.unftp_control_defs.proofs.RunLemmas.{unread-on}
-use Rattle.unftp_control_serve.specs.Decoder.{Pending, cleared, kept_length, pushed, saturating_u64}
-use Rattle.unftp_control_serve.specs.Engine.{EngineState, after_end_with, bytes_with, ends_with, fed, pending_with}
+use Rattle.unftp_control_serve.specs.Decoder.{IsSeenAhead, Pending, cleared, kept_length, pushed, saturating_u64}
+use Rattle.unftp_control_serve.specs.Engine.{AreScanned, EngineState, IsFed, after_end_with, bytes_with, ends_with, pending_with}
 
 -- what is kept of an incomplete line is within the limit
 pub kept_within : (limit : ℕ) (incomplete : Bytes) → kept_length (Some limit) incomplete ≤ limit
@@ -46,7 +46,7 @@ pub record WasFed {S : Type 0} (law : SessionLaw S) (s : S) (d q : Pending) (pie
   pub all_scanned : d.unscanned ≡ 0
   pub ends : ended ≡ ends_for d.limit law s (d.bytes ++ piece)
   pub pending : q.bytes ≡ unread d.limit law s (d.bytes ++ piece)
-  pub unscanned : q.unscanned ≡ (if ended then length q.bytes else 0)
+  pub unscanned : IsSeenAhead q.unscanned (if ended then length q.bytes else 0)
   pub same_limit : q.limit ≡ d.limit
   pub same_held : q.held ≡ (pushed d piece).held
   pub scanned_once : q.scanned + q.unscanned
@@ -64,10 +64,8 @@ module _ {S : Type 0} {law : SessionLaw S} {s : S} {d q : Pending} {piece : Byte
 
   -- its parts, one by one
   fed-so : {incomplete : Bytes} {finished : Bool} {buffered : ℕ}
-      → incomplete ≡ pending_with engine law s piece → finished ≡ ended →
-      q.scanned + length (after_end_with engine law s piece) ≡ engine.scanned + length piece
-      → buffered ≡ kept_length engine.limit incomplete →
-      record {
+      → incomplete ≡ pending_with engine law s piece → finished ≡ ended
+      → buffered ≡ kept_length engine.limit incomplete → IsFed law s engine piece (record {
         incomplete = incomplete;
         left = saturating_u64 (length q.bytes);
         failed = false;
@@ -75,42 +73,39 @@ module _ {S : Type 0} {law : SessionLaw S} {s : S} {d q : Pending} {piece : Byte
         scanned = q.scanned;
         limit = q.limit;
         buffered = buffered;
-        held =
-            q.held;
+        held = q.held;
+      })
+  fed-so incomplete_is finished_is kept = record {
+    is = rw (kept, incomplete_is, pending, finished_is ∙ ends, same_limit, same_held) refl;
+    scanned = by_end ended after_end_so unscanned;
+  }
+    where
+      by_end : (end : Bool) → after_end_with engine law s piece ≡ (if end then q.bytes else [])
+          → IsSeenAhead q.unscanned (if end then length q.bytes else 0)
+          → AreScanned q.scanned (engine.scanned + length piece)
+          (length (after_end_with engine law s piece))
+      by_end true after ahead = record {
+        once = omega (arith, scanned_once, all_scanned);
+        each = omega (arith, scanned_once, all_scanned, ap length after, ahead);
+        few = omega (arith, scanned_once, all_scanned, ap length after, ahead);
       }
-      ≡ fed law s engine piece
-  fed-so incomplete_is finished_is once kept =
-      let scanned_is : q.scanned ≡ engine.scanned + length piece - length
-      (after_end_with engine law s piece) = omega (arith, once) in
-      rw (kept, incomplete_is, pending, finished_is ∙ ends, scanned_is, same_limit, same_held) refl
+      by_end false after ahead = record {
+        once = omega (arith, scanned_once, all_scanned);
+        each = omega (arith, scanned_once, all_scanned, ap length after, ahead);
+        few = omega (arith, scanned_once, all_scanned, ap length after, ahead);
+      }
 
-  pub fed-ended : ended ≡ true → engine_of (cleared q) (saturating_u64 (length q.bytes)) false true
-      ≡ fed law s engine piece
+  pub fed-ended : ended ≡ true
+      → IsFed law s engine piece (engine_of (cleared q) (saturating_u64 (length q.bytes)) false true)
   fed-ended is =
       fed-so (ap (λ end. if end then [] else incomplete_line (bytes_with engine piece))
-      (sym is ∙ ends)) (sym is)
-      (omega (
-        arith,
-        scanned_once,
-        all_scanned,
-        unscanned ∙ ap (λ end. if end then length q.bytes else 0) is,
-        ap length (after_end_so ∙ ap (λ end. if end then q.bytes else []) is),
-      ))
-      (sym (nothing_kept engine.limit))
+      (sym is ∙ ends)) (sym is) (sym (nothing_kept engine.limit))
 
   pub fed-on : ended ≡ false → q.buffered ≡ kept_length d.limit q.bytes
-      → engine_of q (saturating_u64 (length q.bytes)) false false ≡ fed law s engine piece
+      → IsFed law s engine piece (engine_of q (saturating_u64 (length q.bytes)) false false)
   fed-on is kept =
       let on : ends_with engine law s piece ≡ false = sym ends ∙ is in
       fed-so
       (pending ∙ unread-on law engine.limit s (bytes_with engine piece) on
       ∙ ap (λ end. if end then [] else incomplete_line (bytes_with engine piece)) (sym on))
-      (sym is)
-      (omega (
-        arith,
-        scanned_once,
-        all_scanned,
-        unscanned ∙ ap (λ end. if end then length q.bytes else 0) is,
-        ap length (after_end_so ∙ ap (λ end. if end then q.bytes else []) is),
-      ))
-      kept
+      (sym is) kept

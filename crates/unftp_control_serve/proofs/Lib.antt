@@ -3,6 +3,7 @@ mod MappedLemmas
 pub mod EventLineLemmas
 pub mod ClientLineLemmas
 pub mod DecoderLemmas
+mod ExampleLemmas
 pub mod SendLemmas
 pub mod EndingLemmas
 mod EngineLemmas

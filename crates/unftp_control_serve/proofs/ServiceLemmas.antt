@@ -1,5 +1,5 @@
 -- A service, piece by piece.
-use Rattle.std.proofs.Common.{◌≡◌, ℕ, max, ◌+◌, ◌-◌, ◌^◌, ◌≤◌, ◌⊎◌, inl, inr, Bool, true, false, List, [], ◌∷◌, ◌++◌, take, Option, Some, None, Result, Ok, Err, length, refl, sym, ◌∙◌, ap, subst, arith, append_assoc, length-append}
+use Rattle.std.proofs.Common.{◌≡◌, ℕ, max, ◌+◌, ◌-◌, ◌^◌, ◌≤◌, ◌⊎◌, inl, inr, Bool, true, false, List, [], ◌∷◌, ◌++◌, Option, Some, None, Result, Ok, Err, length, refl, sym, ◌∙◌, ap, subst, arith, append_assoc, length-append}
 use Rattle.std.proofs.lemmas.List.{append-nil}
 use Rattle.std.specs.List.{AllByRecursion, concat}
 use Rattle.std.proofs.lemmas.Bool.{false≢true}
@@ -17,7 +17,7 @@ use Rattle.unftp_control_defs.proofs.LineLemmas.{Lines-lines_of, incomplete_line
 use Rattle.unftp_control_defs.proofs.RunLemmas.{after_end-ended, run-ended, unread-ended}
 use Rattle.unftp_control_serve.specs.Endings.{Snapshot, AllAnswered, RunFailed, NoRoom}
 use Rattle.unftp_control_serve.specs.Decoder.{kept_length, saturating_u64}
-use Rattle.unftp_control_serve.specs.Engine.{EngineState, IsRunning, bytes_with, ends_with, pending_with, fed, fresh}
+use Rattle.unftp_control_serve.specs.Engine.{AreScanned, EngineState, IsRunning, after_end_with, bytes_with, ends_with, pending_with, fed, fresh}
 use Rattle.unftp_control_serve.specs.Service.{AnsweredAll, EndedLate, NoRoomForPiece, ReadFailed, ReadTooOften, Reports, ServeEnded, Serves, ServesKnown, most_held}
 use Rattle.unftp_control_serve.specs.declared.service.Served.{Served}
 use Rattle.unftp_control_serve.specs.declared.error.ServeError.{ServeError}
@@ -111,19 +111,21 @@ module _ {limit : Option ℕ} {S : Type 0} {law : SessionLaw S} {m : Snapshot S}
 
       -- and whose lines were answered
       module _ (after : Snapshot S) (all : AllAnswered law n
-          (run_for engine.limit law n.state (bytes_with engine piece)) after) where
+          (run_for engine.limit law n.state (bytes_with engine piece)) after) (scanned : ℕ)
+          (are_scanned : AreScanned scanned (engine.scanned + length piece)
+          (length (after_end_with engine law n.state piece))) where
         so_far_more : AnsweredSoFar limit law m after (concat (s.pieces ++ piece ∷ []))
-            (fed law n.state engine piece)
-        so_far_more = rw whole (AnsweredSoFar-on s.so_far on piece all)
+            (fed law n.state engine piece scanned)
+        so_far_more = rw whole (AnsweredSoFar-on s.so_far on piece scanned are_scanned all)
 
-        held_so : (fed law n.state engine piece).held ≡ most_held limit []
+        held_so : (fed law n.state engine piece scanned).held ≡ most_held limit []
             (s.pieces ++ piece ∷ [])
         held_so = most_held-piece limit s.pieces piece s.held
             (s.buffered ∙ ap (kept_length limit) (s.so_far.incomplete on))
 
         -- after which the run goes on
         pub Serving-next : ends_with engine law n.state piece ≡ false
-            → Serving limit law m after i k (fed law n.state engine piece) (turn + 1)
+            → Serving limit law m after i k (fed law n.state engine piece scanned) (turn + 1)
         Serving-next still_on = record {
           pieces = s.pieces ++ piece ∷ [];
           were_read = were_read_so;
@@ -138,7 +140,7 @@ module _ {limit : Option ℕ} {S : Type 0} {law : SessionLaw S} {m : Snapshot S}
         }
 
         -- with which it ended
-        pub Serving-done : {served : Served} → Reports served (fed law n.state engine piece)
+        pub Serving-done : {served : Served} → Reports served (fed law n.state engine piece scanned)
             → ends_with engine law n.state piece ≡ true → AnsweredAll limit law m after i k served
         Serving-done {served} reports done =
             let is_done : served.done ≡ true = reports.done ∙ done in
@@ -156,7 +158,7 @@ module _ {limit : Option ℕ} {S : Type 0} {law : SessionLaw S} {m : Snapshot S}
               at_end = λ h. absurd (false≢true (sym h ∙ is_done));
               answered = so_far_more.answered;
               left = reports.left ∙ so_far_more.left;
-              scanned = omega (arith, reports.scanned, so_far_more.scanned);
+              scanned = rw reports.scanned so_far_more.scanned;
               held = reports.held ∙ held_so;
               no_read_failed = read.failures ∙ s.no_read_failed;
             }
@@ -209,7 +211,7 @@ module _ {limit : Option ℕ} {S : Type 0} {law : SessionLaw S} {m : Snapshot S}
           at_end = λ _. end.at_end;
           answered = s.so_far.answered;
           left = reports.left ∙ s.so_far.left;
-          scanned = omega (arith, reports.scanned, s.so_far.scanned);
+          scanned = rw reports.scanned s.so_far.scanned;
           held = reports.held ∙ s.held;
           no_read_failed = end.failures ∙ s.no_read_failed;
         }
@@ -322,13 +324,13 @@ module _ {limit : Option ℕ} {S : Type 0} {law : SessionLaw S} {m n : Snapshot 
           (sym alike.same_run) s.written.known;
       state = s.state ∙ ap (last_state law m.state) (sym alike.same_run);
       done = alike.same_end;
-      tested = omega (
-        arith,
-        s.tested,
-        length-append s.read rest,
-        ap length alike.more_after_end,
-        length-append (after_end limit law m.state s.read) rest,
-      );
+      tested =
+          let more = length-append (after_end limit law m.state s.read) rest in
+          rw alike.more_after_end record {
+            once = omega (arith, s.tested.once, length-append s.read rest);
+            each = omega (arith, s.tested.each, more, length-append s.read rest);
+            few = omega (arith, s.tested.few, more, length-append s.read rest);
+          };
       read = s.read;
       rest = rest;
       whole = refl;

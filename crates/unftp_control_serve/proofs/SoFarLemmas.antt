@@ -1,15 +1,15 @@
 -- What an engine has answered of what it was fed.
-use Rattle.std.proofs.Common.{◌≡◌, ℕ, ◌+◌, true, false, List, [], ◌++◌, Option, length, refl, sym, ap, subst, ◌∙◌, arith, length-append}
+use Rattle.std.proofs.Common.{◌≡◌, ℕ, ◌≤◌, ◌+◌, true, false, List, [], ◌++◌, Option, length, refl, sym, ap, subst, ◌∙◌, arith, length-append}
 use Rattle.std.specs.Prelude.{if◌then◌else◌}
 use Rattle.unftp_control_defs.specs.Bytes.{Bytes}
 use Rattle.unftp_control_defs.specs.Events.{FtpEvent, events}
 use Rattle.unftp_control_defs.specs.Lines.{incomplete_line}
 use Rattle.unftp_control_defs.specs.Run.{SessionLaw, after_end, ends_for, run_for, unread}
 use Rattle.unftp_control_defs.proofs.LineLemmas.{incomplete_line-append}
-use Rattle.unftp_control_defs.proofs.RunLemmas.{after_end-ended, after_end-on, after_end-within, run_of-all, run-ended, unread-ended}
+use Rattle.unftp_control_defs.proofs.RunLemmas.{after_end-ended, after_end-on, run_of-all, run-ended, unread-ended}
 use Rattle.unftp_control_serve.specs.Decoder.{saturating_u64}
 use Rattle.unftp_control_serve.specs.Endings.{AllAnswered, RunFailed, Snapshot}
-use Rattle.unftp_control_serve.specs.Engine.{EngineState, bytes_with, fed, fresh, more_left}
+use Rattle.unftp_control_serve.specs.Engine.{AreScanned, EngineState, after_end_with, bytes_with, fed, fresh, more_left}
 use Rattle.unftp_control_serve.specs.declared.error.ServeError.{ServeError}
 use Rattle.unftp_control_serve.proofs.EndingLemmas.{AllAnswered-nothing, GoneOn, GoneOn-answered, GoneOn-failed}
 
@@ -21,7 +21,7 @@ pub record AnsweredSoFar {S : Type 0} (limit : Option ℕ) (law : SessionLaw S) 
   pub finished : engine.finished ≡ ends_for limit law m.state sent
   pub incomplete : engine.finished ≡ false → engine.incomplete ≡ incomplete_line sent
   pub left : engine.left ≡ saturating_u64 (length (unread limit law m.state sent))
-  pub scanned : engine.scanned + length (after_end limit law m.state sent) ≡ length sent
+  pub scanned : AreScanned engine.scanned (length sent) (length (after_end limit law m.state sent))
   pub answered : AllAnswered law m (run_for limit law m.state sent) n
 
 pub AnsweredSoFar-start : {S : Type 0} (limit : Option ℕ) (law : SessionLaw S) (m : Snapshot S)
@@ -32,7 +32,7 @@ AnsweredSoFar-start limit law m = record {
   finished = refl;
   incomplete = λ _. refl;
   left = refl;
-  scanned = omega arith;
+  scanned = record { once = omega arith; each = omega arith; few = omega arith };
   answered = AllAnswered-nothing law m;
 }
 
@@ -50,14 +50,20 @@ module _ {limit : Option ℕ} {S : Type 0} {law : SessionLaw S} {m n : Snapshot 
         }
 
     module _ (piece : Bytes) where
-      pub AnsweredSoFar-on : {k : Snapshot S}
+      pub AnsweredSoFar-on : {k : Snapshot S} (scanned : ℕ) → AreScanned scanned
+          (engine.scanned + length piece) (length (after_end_with engine law n.state piece))
           → AllAnswered law n (run_for engine.limit law n.state (bytes_with engine piece)) k
-          → AnsweredSoFar limit law m k (sent ++ piece) (fed law n.state engine piece)
-      AnsweredSoFar-on {k} all =
+          → AnsweredSoFar limit law m k (sent ++ piece) (fed law n.state engine piece scanned)
+      AnsweredSoFar-on {k} scanned are all =
           let all : AllAnswered law n (run_for limit law n.state (incomplete_line sent ++ piece)) k =
           rw (so_far.limited, so_far.incomplete on) at all in
           let run = GoneOn-answered gone_on piece
           (record { answered = all; ended_is = refl; left_is = refl }) in
+          let all_so_far : length sent ≤ engine.scanned = omega (
+            arith,
+            so_far.scanned.each,
+            ap length (after_end-on law limit m.state sent gone_on.goes_on),
+          ) in
           let same_end : after_end limit law m.state (sent ++ piece)
           ≡ after_end limit law n.state (incomplete_line sent ++ piece) =
           λ i. if (sym run.ended_is i) then (sym run.left_is i) else [] in
@@ -69,14 +75,11 @@ module _ {limit : Option ℕ} {S : Type 0} {law : SessionLaw S} {m n : Snapshot 
                 else incomplete_line (incomplete_line sent ++ piece)) now
                 ∙ sym (incomplete_line-append sent piece);
             left = ap (λ bytes. saturating_u64 (length bytes)) run.left_is;
-            scanned = omega (
-              arith,
-              so_far.scanned,
-              ap length (after_end-on law limit m.state sent gone_on.goes_on),
-              ap length same_end,
-              length-append sent piece,
-              after_end-within law limit m.state (sent ++ piece),
-            );
+            scanned = let are = rw (so_far.limited, so_far.incomplete on) at are in rw same_end record {
+              once = omega (arith, are.once, so_far.scanned.once, length-append sent piece);
+              each = omega (arith, are.each, all_so_far, length-append sent piece);
+              few = omega (arith, are.few, so_far.scanned.once, length-append sent piece);
+            };
             answered = run.answered;
           })
 
@@ -105,12 +108,11 @@ module _ {limit : Option ℕ} {S : Type 0} {law : SessionLaw S} {m n : Snapshot 
           ap length longer,
           length-append (unread limit law m.state sent) piece,
         );
-        scanned = omega (
-          arith,
-          so_far.scanned,
-          ap length longer_end,
-          length-append (after_end limit law m.state sent) piece,
-          length-append sent piece,
-        );
+        scanned =
+            let more = length-append (after_end limit law m.state sent) piece in rw longer_end record {
+              once = omega (arith, so_far.scanned.once, length-append sent piece);
+              each = omega (arith, so_far.scanned.each, more, length-append sent piece);
+              few = omega (arith, so_far.scanned.few, more, length-append sent piece);
+            };
         answered = rw more.0 so_far.answered;
       }

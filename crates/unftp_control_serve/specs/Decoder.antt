@@ -6,9 +6,9 @@ use Rattle.unftp_control_defs.specs.Events.{FtpEvent, exceeds}
 use Rattle.unftp_control_defs.specs.Lines.{IsLine, lines_of}
 use Rattle.unftp_control_codecs.specs.Memory.{MayTakeMemory}
 use Rattle.unftp_control_defs.specs.TakingSteps.{TakesEvent}
-use Rattle.unftp_control_codecs.specs.Codec.{Codec}
 pub use Rattle.unftp_control_codecs.specs.FirstLine.{kept_length}
-use Rattle.unftp_control_codecs.specs.FirstLine.{IsDropped, IsScannedWithin}
+use Rattle.unftp_control_codecs.specs.Finder.{Finder, HasCompared, codec_of}
+use Rattle.unftp_control_codecs.specs.FirstLine.{IsDropped}
 use Rattle.unftp_control_serve.specs.ClientLines.{after_front_line, front_line, unless_too_long}
 use Rattle.unftp_control_serve.specs.declared.decoder.ClientLine.{ClientLine}
 use Rattle.unftp_control_serve.specs.declared.decoder.ClientLine.TheVariants.{Complete, TooLong}
@@ -32,7 +32,7 @@ pub record Pending : Type 0 where
   -- the line that was taken last, where nothing was called since that changes the decoder; empty
   -- where it is too long
   pub line : Bytes
-  -- how many bytes were scanned for a line feed since the buffer was made, and how many of those
+  -- how many bytes were compared with a line feed since the buffer was made, and how many of those
   -- that are kept have not been
   pub scanned : ℕ
   pub unscanned : ℕ
@@ -87,16 +87,16 @@ cleared pending = record pending {
 
 -- ---- their first line
 
--- how many bytes are kept where it is this, how many of them are not scanned, and how many the
--- buffer holds: those of a line that is too long are dropped, also of an incomplete one
+-- how many bytes are kept where it is this, how many of them are not scanned where so many are, and
+-- how many the buffer holds: those of a line that is too long are dropped, also of an incomplete one
 abbrev pub kept_as : Pending → Option ClientLine → ℕ
 kept_as pending None = kept_length pending.limit pending.bytes
 kept_as pending (Some Complete) = pending.kept
 kept_as pending (Some TooLong) = length (after_front_line pending.bytes)
 
-abbrev pub unscanned_as : Pending → Option ClientLine → ℕ
-unscanned_as pending None = 0
-unscanned_as pending (Some line) = length (after_front_line pending.bytes)
+abbrev pub unscanned_as : Pending → Option ClientLine → ℕ → ℕ
+unscanned_as pending None scanned = 0
+unscanned_as pending (Some line) scanned = pending.scanned + pending.unscanned - scanned
 
 abbrev pub buffered_as : Pending → Option ClientLine → ℕ
 buffered_as pending None = kept_length pending.limit pending.bytes
@@ -109,7 +109,7 @@ found_as pending first scanned = record pending {
   found = is_some first;
   line = [];
   scanned = scanned;
-  unscanned = unscanned_as pending first;
+  unscanned = unscanned_as pending first scanned;
   buffered = buffered_as pending first;
 }
 
@@ -125,7 +125,6 @@ without_line pending = record pending {
   kept = length (after_front_line pending.bytes);
   found = false;
   line = unless_too_long pending.limit (front_line pending.bytes);
-  unscanned = length (after_front_line pending.bytes);
 }
 
 -- ---- their events
@@ -137,11 +136,15 @@ pub record FindsNoLine (before after : Pending) : Type 0 where
   pub all_scanned : after.unscanned ≡ 0
   pub kept : after.kept ≡ kept_length before.limit before.bytes
 
--- The first line is taken away, and this is its event. No byte after it is scanned.
+-- Of n bytes after a line fewer than a block were scanned, and so many were not.
+abbrev pub IsSeenAhead : ℕ → ℕ → Type 0
+IsSeenAhead unscanned n = (unscanned ≤ n) × (n ≤ unscanned + 31)
+
+-- The first line is taken away, and this is its event. Few bytes after it are scanned.
 pub record TakesLine (before : Pending) (event : FtpEvent) (after : Pending) : Type 0 where
   pub takes : TakesEvent before.limit before.bytes event after.bytes
   pub all_kept : after.kept ≡ length after.bytes
-  pub none_scanned : after.unscanned ≡ length after.bytes
+  pub few_scanned : IsSeenAhead after.unscanned (length after.bytes)
 
 -- The first of these lines is within the limit, and its command may take memory.
 abbrev pub FirstMayRunOut : Option ℕ → List Bytes → Type 0
@@ -188,44 +191,46 @@ is_found first.Unknown = false
 is_found (first.Line n) = true
 is_found first.TooLong = true
 
--- how many of the bytes that are kept were scanned
-abbrev pub scanned_to : Codec → First → ℕ
-scanned_to codec first.Unknown = codec.place
-scanned_to codec (first.Line n) = n
-scanned_to codec first.TooLong = 0
+-- how many bytes that are kept the first line has, where it was found
+abbrev pub line_end : First → ℕ
+line_end first.Unknown = 0
+line_end (first.Line n) = n
+line_end first.TooLong = 0
 
--- of these bytes, after those that were dropped and after this line
-abbrev pub pending_of : Codec → First → Bytes → Bytes → Bytes → ℕ → ℕ → Pending
-pending_of codec first dropped line bytes buffered held = record {
+-- of these bytes, after those that were dropped and after this line; the finder is after the first
+-- line, where it was found
+abbrev pub pending_of : Finder → First → Bytes → Bytes → Bytes → ℕ → ℕ → Pending
+pending_of finder first dropped line bytes buffered held = record {
   bytes = dropped ++ bytes;
   kept = length bytes;
-  limit = codec.limit;
+  limit = finder.limit;
   found = is_found first;
   line = line;
-  scanned = codec.tests;
-  unscanned = length bytes - scanned_to codec first;
+  scanned = finder.tests;
+  unscanned = length bytes - (line_end first + finder.compared);
   buffered = buffered;
   held = held;
 }
 
 -- The first line is not known; or it has so many of the bytes that are kept; or all its bytes were
--- dropped.
-abbrev pub IsFirst : Codec → Bytes → Bytes → First → Type 0
-IsFirst codec dropped bytes first.Unknown = IsDropped codec dropped
-IsFirst codec dropped bytes (first.Line n) = (dropped ≡ []) × (n ≤ length bytes)
-    × IsLine (take n bytes) × (exceeds codec.limit (length (take n bytes)) ≡ false)
-IsFirst codec dropped bytes first.TooLong = IsLine dropped
-    × (exceeds codec.limit (length dropped) ≡ true) × (codec.skipping ≡ false)
-    × (codec.place ≡ 0)
+-- dropped. Of the bytes after it fewer than a block were compared.
+abbrev pub IsFirst : Finder → Bytes → Bytes → First → Type 0
+IsFirst finder dropped bytes first.Unknown = IsDropped (codec_of finder) dropped
+IsFirst finder dropped bytes (first.Line n) = (dropped ≡ []) × (n ≤ length bytes)
+    × IsLine (take n bytes) × (exceeds finder.limit (length (take n bytes)) ≡ false)
+    × (finder.skipping ≡ false) × (finder.compared ≤ 31)
+IsFirst finder dropped bytes first.TooLong = IsLine dropped
+    × (exceeds finder.limit (length dropped) ≡ true)
+    × (finder.skipping ≡ false) × (finder.compared ≤ 31)
 
 -- What is so of a decoder: the lines before `start` are taken, and the last of them has so many
 -- bytes. There is room for as many bytes as the buffer has held.
-pub record IsDecoder (codec : Codec) (first : First) (dropped buf : Bytes)
+pub record IsDecoder (finder : Finder) (first : First) (dropped buf : Bytes)
     (start line held capacity : ℕ) : Type 0 where
   pub start_within : start ≤ length buf
   pub line_within : line ≤ start
-  pub place_within : IsScannedWithin codec (drop start buf)
-  pub first_is : IsFirst codec dropped (drop start buf) first
-  pub limited : IfSome codec.limit (λ limit. 1 ≤ limit)
+  pub compared_so_far : HasCompared finder (drop (line_end first) (drop start buf))
+  pub first_is : IsFirst finder dropped (drop start buf) first
+  pub limited : IfSome finder.limit (λ limit. 1 ≤ limit)
   pub no_more : length buf ≤ held
   pub room : held ≤ capacity

@@ -1,5 +1,5 @@
 -- What contracts see of an engine.
-use Rattle.std.specs.Prelude.{◌≡◌, ℕ, ◌≤◌, ◌<◌, ◌+◌, ◌-◌, max, Bool, true, false, if◌then◌else◌, [], ◌++◌, length, Option}
+use Rattle.std.specs.Prelude.{◌≡◌, ℕ, ◌≤◌, ◌<◌, ◌+◌, max, Bool, true, false, if◌then◌else◌, [], ◌++◌, length, Option}
 use Rattle.unftp_control_defs.specs.Bytes.{Bytes}
 use Rattle.unftp_control_defs.specs.Lines.{incomplete_line}
 use Rattle.unftp_control_defs.specs.Run.{SessionLaw, ends_for, unread, after_end}
@@ -74,19 +74,33 @@ abbrev pub pending_with : {S : Type 0} → EngineState → SessionLaw S → S �
 pending_with engine law s piece =
     if ends_with engine law s piece then [] else incomplete_line (bytes_with engine piece)
 
--- What a running engine is after a piece at Ok. Each byte of the piece was scanned once, but those
--- after the end; the buffer has held the piece, and holds what is kept of the pending bytes.
-abbrev pub fed : {S : Type 0} → SessionLaw S → S → EngineState → Bytes → EngineState
-fed law s engine piece = record {
+-- So many comparisons with a line feed were made of n bytes: one of each, but for the last ones, of
+-- which at most 31 were compared, with the bytes before them.
+pub record AreScanned (scanned n last : ℕ) : Type 0 where
+  pub once : scanned ≤ n
+  pub each : n ≤ scanned + last
+  pub few : scanned + last ≤ n + 31
+
+-- What a running engine is after a piece at Ok, where so many bytes were scanned. The buffer has held
+-- the piece, and holds what is kept of the pending bytes.
+abbrev pub fed : {S : Type 0} → SessionLaw S → S → EngineState → Bytes → ℕ → EngineState
+fed law s engine piece scanned = record {
   incomplete = pending_with engine law s piece;
   left = saturating_u64 (length (unread_with engine law s piece));
   failed = false;
   finished = ends_with engine law s piece;
-  scanned = engine.scanned + length piece - length (after_end_with engine law s piece);
+  scanned = scanned;
   limit = engine.limit;
   buffered = kept_length engine.limit (pending_with engine law s piece);
   held = max engine.held (engine.buffered + length piece);
 }
+
+-- This is what it is, and each byte of the piece was scanned once, but for those after the end.
+pub record IsFed {S : Type 0} (law : SessionLaw S) (s : S) (engine : EngineState) (piece : Bytes)
+    (after : EngineState) : Type 0 where
+  pub is : after ≡ fed law s engine piece after.scanned
+  pub scanned : AreScanned after.scanned (engine.scanned + length piece)
+      (length (after_end_with engine law s piece))
 
 -- What it is after an error: it has failed. The piece may have been held, and its bytes scanned.
 pub record FailedAfter (before : EngineState) (piece : Bytes) (after : EngineState) : Type 0 where

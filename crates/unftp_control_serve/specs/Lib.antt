@@ -8,3 +8,4 @@ pub mod Writing
 pub mod Endings
 pub mod Engine
 pub mod Service
+pub mod Examples

@@ -12,7 +12,7 @@ use Rattle.unftp_control_defs.specs.Run.{SessionLaw, last_state, replies, run_fo
 use Rattle.unftp_control_serve.specs.Writing.{Begins, IsFlushed, HasWritten}
 use Rattle.unftp_control_serve.specs.Endings.{Snapshot, AllAnswered, RunFailed}
 use Rattle.unftp_control_serve.specs.Decoder.{kept_length, saturating_u64}
-use Rattle.unftp_control_serve.specs.Engine.{EngineState}
+use Rattle.unftp_control_serve.specs.Engine.{AreScanned, EngineState}
 use Rattle.unftp_control_serve.specs.declared.service.Served.{Served}
 use Rattle.unftp_control_serve.specs.declared.error.ServeError.{ServeError}
 use Rattle.unftp_control_serve.specs.declared.error.ServeError.TheVariants.{Read, Write, WriteZero, Handler, OutOfMemory, TooManyReads}
@@ -59,8 +59,8 @@ module _ (limit : Option ℕ) {S : Type 0} (law : SessionLaw S) (before after : 
     pub at_end : served.done ≡ false → IsAtEnd input'.remaining
     pub answered : AllAnswered law before (run_for limit law before.state (concat pieces)) after
     pub left : served.left ≡ saturating_u64 (length (unread limit law before.state (concat pieces)))
-    pub scanned : served.tests + length (after_end limit law before.state (concat pieces))
-        ≡ length (concat pieces)
+    pub scanned : AreScanned served.tests (length (concat pieces))
+        (length (after_end limit law before.state (concat pieces)))
     pub held : served.held ≡ most_held limit [] pieces
     pub no_read_failed : input'.failures ≡ input.failures
 
@@ -124,8 +124,8 @@ pub record Serves (limit : Option ℕ) {S : Type 0} (law : SessionLaw S) (before
   -- The handler is in the last state of this run;
   pub state : after.state ≡ last_state law before.state (run_for limit law before.state read)
   pub done : served.done ≡ ends_for limit law before.state read
-  -- and each byte was scanned for a line feed exactly once, but those after that line.
-  pub tested : served.tests + length (after_end limit law before.state read) ≡ length read
+  -- and each byte was scanned for a line feed exactly once, but for those after that line.
+  pub tested : AreScanned served.tests (length read) (length (after_end limit law before.state read))
   -- So many bytes came after the last line of the run.
   pub left : served.left ≡ saturating_u64 (length (unread limit law before.state read))
   -- What was written is read as what the replies show, and as nothing else, where each is plain.
@@ -144,7 +144,8 @@ pub record ServesKnown (limit : Option ℕ) {S : Type 0} (law : SessionLaw S)
       (text_for limit law before.state input)
   pub state : after.state ≡ last_state law before.state (run_for limit law before.state input)
   pub done : served.done ≡ ends_for limit law before.state input
-  pub tested : served.tests + length (after_end limit law before.state input) ≡ length input
+  pub tested : AreScanned served.tests (length input)
+      (length (after_end limit law before.state input))
   -- These bytes were read, and the reader has yet to give the others: none, where the handler
   -- didn't end the session. `left` is how many were read of those after the last line of the run.
   pub read : Bytes

@@ -5,8 +5,8 @@ ghost use Rattle.unftp_control_defs.specs.Events.{Refused, event_for, event_of, 
 ghost use Rattle.unftp_control_defs.specs.Lines.{IsLine, lines_of};
 ghost use Rattle.unftp_control_defs.specs.Outcome.{outcome};
 ghost use Rattle.unftp_control_codecs.specs.Memory.{MayTakeMemory};
-ghost use Rattle.unftp_control_serve.specs.ClientLines.{first_client_line, front_line};
-ghost use Rattle.unftp_control_serve.specs.Decoder.{MayRunOut, TakesNext, buffered_after, cleared, found_as, kept_bytes, line_after, line_in, no_bytes, pushed, saturating_u64, without_line};
+ghost use Rattle.unftp_control_serve.specs.ClientLines.{after_front_line, first_client_line, front_line};
+ghost use Rattle.unftp_control_serve.specs.Decoder.{IsSeenAhead, MayRunOut, TakesNext, buffered_after, cleared, found_as, kept_bytes, line_after, line_in, no_bytes, pushed, saturating_u64, without_line};
 ghost use Rattle.unftp_control_serve.specs.EventMeaning.{event_meant};
 
 use crate::event::Event;
@@ -14,7 +14,7 @@ use crate::skipped::Skipped;
 use std::alloc::{AllocError, Global};
 use std::marker::Model;
 use unftp_control_codecs::line_parser::parse;
-use unftp_control_codecs::{FirstLine, FtpCodec};
+use unftp_control_codecs::{FirstLine, LineFinder};
 use unftp_control_defs::buffer::PendingBytes;
 use unftp_control_defs::count::Count;
 use unftp_control_message::reply::error::{ControlChanErrorKind, ParseErrorKind};
@@ -45,12 +45,12 @@ pub(crate) enum First {
 ///
 /// What reads no commands, such as a proxy, takes the lines themselves: `find_line` finds the first,
 /// `found_line` returns its bytes, and `take_line` takes it, as late as the caller likes.
-// There is no line feed between the first pending byte and the codec's scan offset, which counts
-// from there. Where the codec has a limit, it keeps no bytes of a line that is longer: they are
-// `skipped`. The last `line` bytes that were taken are those of the line that was taken last.
+// The finder is at the first pending byte, or after the first line, where that was found. It keeps no
+// bytes of a line that is longer than its limit: they are `skipped`. The last `line` bytes that were
+// taken are those of the line that was taken last.
 #[derive(Drop)]
 pub struct EventDecoder {
-    codec: FtpCodec,
+    finder: LineFinder,
     buffer: PendingBytes,
     first: First,
     line: usize,
@@ -65,11 +65,11 @@ impl Model for EventDecoder {
 
     ghost Value = { Pending };
 
-    ghost view = { λ decoder. pending_of decoder.codec decoder.first decoder.skipped
+    ghost view = { λ decoder. pending_of decoder.finder decoder.first decoder.skipped
         (take decoder.line (drop (decoder.buffer.start - decoder.line) decoder.buffer.bytes.items))
         (pending_in decoder.buffer) (length decoder.buffer.bytes.items) decoder.held };
 
-    ghost invariant = { λ decoder. IsDecoder decoder.codec decoder.first decoder.skipped
+    ghost invariant = { λ decoder. IsDecoder decoder.finder decoder.first decoder.skipped
         decoder.buffer.bytes.items decoder.buffer.start decoder.line decoder.held
         (vec_capacity decoder.buffer.bytes) };
 }
@@ -99,7 +99,7 @@ impl EventDecoder {
         ensures { result ≡ no_bytes limit }
     {
         EventDecoder {
-            codec: FtpCodec::resume(limit, 0, false),
+            finder: LineFinder::new(limit),
             buffer: PendingBytes::new(alloc),
             first: First::Unknown,
             line: 0,
@@ -137,11 +137,11 @@ impl EventDecoder {
         self.skipped.count().saturating_add(kept as u64)
     }
 
-    /// How many bytes were scanned for a line feed, as `FtpCodec` counts. Only contracts see it.
+    /// How many bytes were compared with a line feed. Only contracts see it.
     pub fn tests(&self) -> Count
         ensures { result ≡ self.now.scanned }
     {
-        self.codec.tests()
+        self.finder.tests()
     }
 
     /// The most bytes that its buffer has held. Only contracts see it.
@@ -178,14 +178,15 @@ impl EventDecoder {
         ensures line { result ≡ first_client_line self.old.limit (lines_of self.old.bytes) }
         ensures found { self.new ≡ found_as self.old result self.new.scanned }
         ensures scanned { self.new.scanned + self.new.unscanned ≡ self.old.scanned + self.old.unscanned }
+        ensures ahead { IfSome result (λ _. IsSeenAhead self.new.unscanned
+            (length (after_front_line self.new.bytes))) }
         ensures never_fewer { self.old.scanned ≤ self.new.scanned }
         ensures buffered { self.new.buffered ≤ self.old.buffered }
     {
-        if self.is_found() {
-            self.line = 0;
-        } else {
-            self.search();
+        if !self.is_found() {
+            return self.search();
         }
+        self.line = 0;
         self.found_kind()
     }
 
@@ -202,12 +203,13 @@ impl EventDecoder {
         }
     }
 
-    /// What the line is that was found, if one was.
+    /// What the line is that was found.
     #[inline(always)]
     fn found_kind(&self) -> Option<ClientLine>
-        ensures kind { result ≡ (if self.now.found
-            then first_client_line self.now.limit (lines_of self.now.bytes) else None) }
-        ensures found { self.now.found ≡ is_some result }
+        requires { IsTrue self.now.found }
+        ensures kind { result ≡ first_client_line self.now.limit (lines_of self.now.bytes) }
+        ensures ahead { IfSome result (λ _. IsSeenAhead self.now.unscanned
+            (length (after_front_line self.now.bytes))) }
     {
         match self.first {
             First::Unknown => None,
@@ -216,27 +218,34 @@ impl EventDecoder {
         }
     }
 
-    /// Looks for the first line.
+    /// Finds the first line, which was not found yet.
     #[inline(always)]
-    fn search(&mut self)
+    fn search(&mut self) -> Option<ClientLine>
         requires { self.old.found ≡ false }
-        ensures found { self.new ≡ found_as self.old
-            (first_client_line self.old.limit (lines_of self.old.bytes)) self.new.scanned }
+        ensures line { result ≡ first_client_line self.old.limit (lines_of self.old.bytes) }
+        ensures found { self.new ≡ found_as self.old result self.new.scanned }
         ensures scanned { self.new.scanned + self.new.unscanned ≡ self.old.scanned + self.old.unscanned }
+        ensures ahead { IfSome result (λ _. IsSeenAhead self.new.unscanned
+            (length (after_front_line self.new.bytes))) }
         ensures never_fewer { self.old.scanned ≤ self.new.scanned }
         ensures buffered { self.new.buffered ≤ self.old.buffered }
     {
         self.line = 0;
-        match self.codec.find_line(self.buffer.pending()) {
+        match self.finder.find_line(self.buffer.pending()) {
             FirstLine::Incomplete { dropped } => {
                 drop_front(&mut self.buffer, &mut self.skipped, dropped);
                 self.buffer.settle();
+                None
             }
             FirstLine::TooLong { length } => {
                 drop_front(&mut self.buffer, &mut self.skipped, length);
                 self.first = First::TooLong;
+                Some(ClientLine::TooLong)
             }
-            FirstLine::Complete { length } => self.first = First::Line(length),
+            FirstLine::Complete { length } => {
+                self.first = First::Line(length);
+                Some(ClientLine::Complete)
+            }
         }
     }
 
@@ -277,7 +286,6 @@ impl EventDecoder {
     {
         match self.first {
             First::Line(length) => {
-                self.codec.reset();
                 self.buffer.start += length;
                 self.line = length;
             }
@@ -324,7 +332,7 @@ impl EventDecoder {
         ensures cleared { self.new ≡ cleared self.old }
         ensures limit { IfSome self.new.limit (λ limit. 1 ≤ limit) }
     {
-        self.codec.reset();
+        self.finder.restart();
         self.buffer.clear();
         self.first = First::Unknown;
         self.line = 0;

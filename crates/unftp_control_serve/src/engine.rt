@@ -3,10 +3,10 @@ ghost use Rattle.std.specs.Prelude.{◌≡◌, ◌<◌, ◌≤◌, ◌+◌, ◌�
 ghost use Rattle.unftp_control_defs.specs.FtpReply.{Nothing, encoded};
 ghost use Rattle.unftp_control_message.specs.ReplyMeaning.{reply_of};
 ghost use Rattle.unftp_control_serve.specs.Endings.{EventOutcome, OnMemory, OnWrite, PieceOutcome, RunOutcome, snapshot_with};
-ghost use Rattle.unftp_control_serve.specs.Decoder.{kept_length};
+ghost use Rattle.unftp_control_serve.specs.Decoder.{IsSeenAhead, kept_length};
 ghost use Rattle.unftp_control_serve.specs.EventMeaning.{event_meant};
 ghost use Rattle.unftp_control_serve.specs.Writing.{Begins, SendsReply};
-ghost use Rattle.unftp_control_serve.specs.Engine.{FailedAfter, IsRunning, LacksPieceRoom, bytes_with, fed, fresh, more_left};
+ghost use Rattle.unftp_control_serve.specs.Engine.{IsFed, FailedAfter, IsRunning, LacksPieceRoom, bytes_with, fresh, more_left};
 
 use crate::decoder::EventDecoder;
 use crate::error::ServeError;
@@ -89,8 +89,8 @@ fn answer_lines<H: Session, K: Sink>(
         (snapshot_with H.state H.failures K.state handler.new output.new)
         decoder.new.bytes result }
     ensures cuts { OnWrite result K.cuts }
-    ensures unscanned { IfOk result (λ ended. decoder.new.unscanned
-        ≡ (if ended then length decoder.new.bytes else 0)) }
+    ensures unscanned { IfOk result (λ ended. IsSeenAhead decoder.new.unscanned
+        (if ended then length decoder.new.bytes else 0)) }
     ensures kept { IfOk result (λ ended. ended ≡ false
         → decoder.new.buffered ≡ kept_length decoder.old.limit decoder.new.bytes) }
     ensures limit { decoder.new.limit ≡ decoder.old.limit }
@@ -205,7 +205,7 @@ impl Engine {
         matches!(self.phase, Phase::Finished)
     }
 
-    /// How many bytes were scanned for a line feed, as `FtpCodec` counts. Only contracts see it.
+    /// How many bytes were compared with a line feed. Only contracts see it.
     pub fn tests(&self) -> Count
         ensures { result ≡ self.now.scanned }
     {
@@ -250,7 +250,7 @@ impl Engine {
         // What such an engine is then; a limit bounds what the buffer has held.
         ensures fed { IsRunning self.old → MatchResult result
             (λ _. (heard : List H.Heard) → Begins heard (H.heard handler.new)
-            → self.new ≡ fed (H.law heard) (H.state handler.old) self.old piece.now)
+            → IsFed (H.law heard) (H.state handler.old) self.old piece.now self.new)
             (λ _. FailedAfter self.old piece.now self.new) }
         ensures bound { IfSome self.old.limit (λ limit.
             self.new.held ≤ max self.old.held (limit + length piece.now)) }
@@ -289,7 +289,7 @@ impl Engine {
         ensures cuts { OnWrite result K.cuts }
         ensures fed { MatchResult result
             (λ _. (heard : List H.Heard) → Begins heard (H.heard handler.new)
-            → self.new ≡ fed (H.law heard) (H.state handler.old) self.old piece.now)
+            → IsFed (H.law heard) (H.state handler.old) self.old piece.now self.new)
             (λ _. FailedAfter self.old piece.now self.new) }
         ensures bound { IfSome self.old.limit (λ limit.
             self.new.held ≤ max self.old.held (limit + length piece.now)) }

@@ -7,6 +7,7 @@ mod decoder;
 mod engine;
 mod error;
 mod event;
+pub mod examples;
 mod handler;
 mod output;
 mod send;

@@ -22,7 +22,7 @@ pub struct Served {
     pub left: u64,
     /// Whether the handler ended the session, and not the input.
     pub done: bool,
-    /// How many bytes were scanned for a line feed, as `FtpCodec` counts. Only contracts see it.
+    /// How many bytes were compared with a line feed. Only contracts see it.
     pub tests: Count,
     /// The most bytes that were held in the buffer. Only contracts see it.
     pub held: Count,

@@ -53,7 +53,7 @@ returns-then-done-clause-outcome g c =
 pub returns-then-done-clause-unscanned : goal.returns-then-done-clause-unscanned
 returns-then-done-clause-unscanned g c =
     let first = rw c.in-Some.is at c.in_ok-event.ensures.takes_next in
-    first.none_scanned
+    first.few_scanned
 
 pub returns-then-done-clause-kept : goal.returns-then-done-clause-kept
 returns-then-done-clause-kept g c = λ on. absurd (false≢true (sym on))
@@ -66,7 +66,7 @@ returns-in-None-clause-outcome g c =
 pub returns-in-None-clause-unscanned : goal.returns-in-None-clause-unscanned
 returns-in-None-clause-unscanned g c =
     let none = rw c.in-None.is at c.in_ok-event.ensures.takes_next in
-    none.all_scanned
+    (omega (arith, none.all_scanned), omega (arith, none.all_scanned))
 
 pub returns-in-None-clause-kept : goal.returns-in-None-clause-kept
 returns-in-None-clause-kept g c =

@@ -23,22 +23,22 @@ loop-turn-preserved g c = record {
   serving = λ w so.
       let before = c.loop-turn.invariant.serving w
       (Begins-trans w _ _ so c.in_ok-feed.ensures.heard) in
-      let is = c.in_ok-feed.ensures.fed before.running w so in
-      let on = ap (λ engine. engine.finished) (sym is) ∙ sym c.finished-is_over.ensures
+      let fed = c.in_ok-feed.ensures.fed before.running w so in
+      let on = ap (λ engine. engine.finished) (sym fed.is) ∙ sym c.finished-is_over.ensures
       ∙ c.if-is_over.false in
-      rw is (Serving-next _ before _ (rw c.in-Some.is at c.in-Ok.ensures) _
-      (c.in_ok-feed.ensures.outcome before.running w so) on);
+      rw fed.is (Serving-next _ before _ (rw c.in-Some.is at c.in-Ok.ensures) _
+      (c.in_ok-feed.ensures.outcome before.running w so) _ fed.scanned on);
 }
 
 pub returns-then-is_over-clause-ok : goal.returns-then-is_over-clause-ok
 returns-then-is_over-clause-ok g c =
     let before = c.loop-turn.invariant.serving _ c.in_ok-feed.ensures.heard in
-    let is = c.in_ok-feed.ensures.fed before.running _ (Begins-refl _) in
-    let done = ap (λ engine. engine.finished) (sym is) ∙ sym c.finished-is_over.ensures
+    let fed = c.in_ok-feed.ensures.fed before.running _ (Begins-refl _) in
+    let done = ap (λ engine. engine.finished) (sym fed.is) ∙ sym c.finished-is_over.ensures
     ∙ c.if-is_over.true in
     Serving-done _ before _ (rw c.in-Some.is at c.in-Ok.ensures) _
-    (c.in_ok-feed.ensures.outcome before.running _ (Begins-refl _))
-    (rw is at c.served_by-then-is_over.ensures) done
+    (c.in_ok-feed.ensures.outcome before.running _ (Begins-refl _)) _ fed.scanned
+    (rw fed.is at c.served_by-then-is_over.ensures) done
 
 pub returns-clause-err : goal.returns-clause-err
 returns-clause-err g c = Serving-too_often (c.loop-turn.invariant.serving _ (Begins-refl _))

@@ -12,7 +12,7 @@ line_is c =
     let d = c.self.inside in
     let kept : Bytes = drop d.buffer.start d.buffer.bytes.items in
     (rw (← c.self.view_is) at c.found_line.ensures)
-    ∙ seen-is d.codec d.skipped kept d.first c.self.invariant.first_is
+    ∙ seen-is d.finder d.skipped kept d.first c.self.invariant.first_is
     ∙ ap (λ f. seen f kept) c.in-Line.is
 
 pub returns-in-Line-clause-ok : goal.returns-in-Line-clause-ok
@@ -21,7 +21,7 @@ returns-in-Line-clause-ok c =
     let kept : Bytes = drop d.buffer.start d.buffer.bytes.items in
     rw (← c.self.view_is)
     (subst (λ meant. IfOk c.event_of.result (λ event. event_meant event ≡ meant))
-    (line_event d.codec d.skipped kept c.in-Line.field-0 c.found_line.result.now
+    (line_event d.finder d.skipped kept c.in-Line.field-0 c.found_line.result.now
     (rw c.in-Line.is at c.self.invariant.first_is) (line_is c)) c.event_of.ensures.ok)
 
 pub returns-in-Line-clause-err : goal.returns-in-Line-clause-err
@@ -29,11 +29,11 @@ returns-in-Line-clause-err c =
     let d = c.self.inside in
     let kept : Bytes = drop d.buffer.start d.buffer.bytes.items in
     rw (← c.self.view_is) (on_err_weaker c.event_of.result
-    (line_memory d.codec d.skipped kept c.in-Line.field-0 c.found_line.result.now
+    (line_memory d.finder d.skipped kept c.in-Line.field-0 c.found_line.result.now
     (rw c.in-Line.is at c.self.invariant.first_is) (line_is c)) c.event_of.ensures.err)
 
 pub returns-in-TooLong-clause-ok : goal.returns-in-TooLong-clause-ok
 returns-in-TooLong-clause-ok c =
     let d = c.self.inside in
-    rw (← c.self.view_is) (c.too_long.ensures ∙ long_event d.codec d.skipped
+    rw (← c.self.view_is) (c.too_long.ensures ∙ long_event d.finder d.skipped
     (drop d.buffer.start d.buffer.bytes.items) (rw c.in-TooLong.is at c.self.invariant.first_is))

@@ -5,10 +5,10 @@ use Rattle.unftp_control_serve.proofs.decoder.EventDecoder.is_found.Goals as goa
 
 pub returns-in-Line-clause-line : goal.returns-in-Line-clause-line
 returns-in-Line-clause-line c _ = let d = c.self.inside in
-    rw (← c.self.view_is) (found_is_line d.codec d.skipped _ (first.Line c.in-Line.field-0)
+    rw (← c.self.view_is) (found_is_line d.finder d.skipped _ (first.Line c.in-Line.field-0)
     (rw c.in-Line.is at c.self.invariant.first_is) refl)
 
 pub returns-in-TooLong-clause-line : goal.returns-in-TooLong-clause-line
 returns-in-TooLong-clause-line c _ = let d = c.self.inside in
-    rw (← c.self.view_is) (found_is_line d.codec d.skipped _ first.TooLong
+    rw (← c.self.view_is) (found_is_line d.finder d.skipped _ first.TooLong
     (rw c.in-TooLong.is at c.self.invariant.first_is) refl)

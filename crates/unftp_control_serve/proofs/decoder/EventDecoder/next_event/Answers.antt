@@ -10,8 +10,10 @@ pub returns-clause-takes_next : goal.returns-clause-takes_next
 returns-clause-takes_next c = first_taken c.args.self.now c.find_line.new.self
     c.find_line.ensures.line c.find_line.ensures.found c.take_line.new.self c.in-Some.is
     c.take_line.ensures c.in_ok-event.event c.in_ok-event.ensures.ok
+    (rw c.in-Some.is at c.find_line.ensures.ahead)
 
 pub returns-clause-line : goal.returns-clause-line
 returns-clause-line c = line_taken_is c.args.self.now c.find_line.new.self
     c.find_line.ensures.line c.find_line.ensures.found c.take_line.new.self c.in-Some.is
-    c.take_line.ensures c.in_ok-event.event c.in_ok-event.ensures.ok AllocError
+    c.take_line.ensures c.in_ok-event.event c.in_ok-event.ensures.ok
+    (rw c.in-Some.is at c.find_line.ensures.ahead) AllocError

@@ -33,7 +33,7 @@ returns-after-ended-clause-fed g c =
           (fed-ended was_fed inside.left (has_failed inside.phase) (has_finished inside.phase)
           b.if-ended.true)
       | else-ended b ↦
-          b.self-is ∙ rw (not_failed, not_finished, c.left-self-inside.ensures)
+          rw (b.self-is, not_failed, not_finished, c.left-self-inside.ensures)
           (fed-on was_fed inside.left false false b.if-ended.false
           (rw pushed at (lines.kept b.if-ended.false)))
     ])
