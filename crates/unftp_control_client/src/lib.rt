@@ -212,6 +212,8 @@ impl Client {
             length self.new.replies.bytes ≤ max (length self.old.replies.bytes) (limit + 4095)) }
         ensures buffered { IfSome self.old.replies.limit (λ limit.
             self.new.replies.buffered ≤ max self.old.replies.buffered (limit + 4095)) }
+        ensures held { IfSome self.old.replies.limit (λ limit.
+            self.new.replies.held ≤ max self.old.replies.held (limit + 4095)) }
     {
         match self.replies.read_reply(reader)? {
             Some(received) => Ok(Some(self.dialogue.add_reply(received))),

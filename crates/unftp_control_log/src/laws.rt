@@ -98,9 +98,9 @@ pub fn each_line_has_its_replies()
         → AllByRecursion (λ entry. IsWholeExchange entry.replies) passed.recorded }
 {}
 
-/// Where no exchange is returned any more, no more is held than a part of a reply, or an incomplete
-/// line, of what comes next; each is within its limit.
-pub fn no_more_is_held_than_a_limit()
+/// Where no exchange is returned any more, the side that lacks what comes next holds no more than a
+/// part of a reply, or an incomplete line, within its limit. The other side holds what is pending.
+pub fn incomplete_side_is_bounded()
     ensures replies { (limits : RustLimits) (recorder later : RustRecorder) (passed : Passed)
         → IsNew limits recorder → IsRecorded recorder passed later → IsWaiting later
         → later.turn.is_complete ≡ false → later.given.buffered < limits.reply }

@@ -79,8 +79,9 @@ fn visible_line<'a>(line: &'a [u8], digits: &'a mut Buffer) -> Visible<'a>
 /// with `***` for its arguments, also where it has none. So it is with the subcommands of SITE but
 /// CHMOD, IDLE, MD5, UMASK and UTIME, whose arguments are shown. A refused line is `refused`, its
 /// verb where it is such a word or has a rule, and the words of the error, such as `Invalid command`,
-/// `Non-UTF8 character while parsing`, `Invalid end-of-line` or `Line too long`; of its parameter
-/// nothing is shown. Nor is the parameter of a line whose own verb hides it, with whatever event.
+/// `Non-UTF8 character while parsing`, `Invalid end-of-line` or `Line too long`: so a log shows of a
+/// password that it has an invalid line ending. Nothing else is shown of the parameter, nor anything
+/// of that of a line whose own verb hides it, with whatever event.
 ///
 /// It takes no memory but what `buf` needs, and fails only where `buf` lacks room for the line and
 /// can't grow: `buf` is then as it was. Nothing that is hidden is written to `buf`, not even to be

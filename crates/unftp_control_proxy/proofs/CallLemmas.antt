@@ -24,7 +24,7 @@ use Rattle.unftp_control_client.specs.ForwardingSteps.{IsGreeted}
 use Rattle.unftp_control_client.specs.declared.dialogue.Dialogue.{Dialogue}
 use Rattle.unftp_control_client.proofs.ClientStepLemmas.{answered-after_final, answered_after, sent-after_final}
 use Rattle.unftp_control_proxy.specs.ProxyAnswers.{IsReplyOf}
-use Rattle.unftp_control_proxy.specs.ProxyCalls.{AnsweredBy, Fate, GivesAnswer, IsDecidable, IsLookedFor, IsWholeReply, PassesReply, ProxyState, ReplyBytes, SentAs, TakesReplyBytes, after_fate, greeting_owed, server_owes, waits}
+use Rattle.unftp_control_proxy.specs.ProxyCalls.{AnsweredBy, Fate, GivesAnswer, IsDecidable, IsLookedFor, IsWholeReply, PassesReply, ProxyState, ReplyBytes, SentAs, TakesReplyBytes, after_fate, greeting_owed, server_owes, waits, with_settled}
 use Rattle.unftp_control_proxy.specs.Traffic.{IsSingle, IsTraffic, held_fate, no_traffic, one_answer, one_line, one_reply}
 use Rattle.unftp_control_proxy.proofs.AnswerLemmas.{read_is_final}
 
@@ -60,6 +60,14 @@ found_only before later is = pieces before later
     (ap (λ (p : ProxyState). p.limits) is.same) is.limit [] []
     (append-nil before.client.bytes ∙ sym is.bytes)
     (append-nil before.server.bytes ∙ sym (ap (λ (p : ProxyState). p.server.bytes) is.same))
+
+pub settled_only : (before later : ProxyState) → later ≡ with_settled before
+    → IsTraffic before no_traffic later
+settled_only before later is = pieces before later
+    (ap (λ (p : ProxyState). p.dialogue) is) (ap (λ (p : ProxyState). p.answer) is)
+    (ap (λ (p : ProxyState). p.limits) is) (ap (λ (p : ProxyState). p.client.limit) is) [] []
+    (append-nil before.client.bytes ∙ sym (ap (λ (p : ProxyState). p.client.bytes) is))
+    (append-nil before.server.bytes ∙ sym (ap (λ (p : ProxyState). p.server.bytes) is))
 
 -- ---- a line that is decided
 

@@ -48,7 +48,7 @@ plain_lacks (b ∷ text) plain = (by_byte, plain_lacks text each.1)
 bytes_eq_is : (a b : Bytes) → bytes_eq a b ≡ true → a ≡ b
 bytes_eq_is a b e = (bytes_eq-Decides a b).0 e
 
-clear_is_line : (line : Bytes) → is_clear line ≡ true → IsLine line
+pub clear_is_line : (line : Bytes) → is_clear line ≡ true → IsLine line
 clear_is_line line clear = record {
   body = take (length line - 2) line ++ CR ∷ [];
   whole = sym (take-append-drop (length line - 2) line)

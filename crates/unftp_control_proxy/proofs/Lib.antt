@@ -4,3 +4,4 @@ pub mod TrafficLemmas
 pub mod CallLemmas
 pub mod FilterLemmas
 pub mod RelayLemmas
+pub mod ExampleLemmas

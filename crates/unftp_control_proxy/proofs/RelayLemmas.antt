@@ -11,7 +11,7 @@ use Rattle.unftp_control_client.specs.Steps.{AreExchanges}
 use Rattle.unftp_control_client.specs.declared.dialogue.To.TheVariants.{Greeting}
 use Rattle.unftp_control_serve.specs.ClientLines.{first_client_line, front_line}
 use Rattle.unftp_control_serve.specs.Decoder.{pushed}
-use Rattle.unftp_control_proxy.specs.ProxyCalls.{AnsweredBy, Fate, GivesAnswer, GivesNext, IsGiven, IsLookedFor, IsUnasked, PassesReply, ProxyState, ReplyBytes, SentAs, waits}
+use Rattle.unftp_control_proxy.specs.ProxyCalls.{AnsweredBy, Fate, GivesAnswer, GivesNext, IsGiven, IsLookedFor, IsUnasked, PassesReply, ProxyState, ReplyBytes, SentAs, waits, with_settled}
 use Rattle.unftp_control_proxy.specs.Traffic.{AreAsTheyCame, IsTraffic, client_lines, client_piece, client_replies, fates_in, fates_of, given_in, held_fate, joined_traffic, no_traffic, one_answer, one_line, one_reply, passed_by_step, passed_in, sends_for, all_sent, server_piece}
 use Rattle.unftp_control_proxy.specs.Filtering.{AreFiltered, FilterLaw, IsAsked, filtered}
 use Rattle.unftp_control_proxy.specs.Relaying.{IsEnd, IsSettled, RelayState, Relays, RelaysInPart, after_written, new_relay}
@@ -19,7 +19,7 @@ use Rattle.unftp_control_proxy.specs.declared.proxy.Limits.{Limits}
 use Rattle.unftp_control_proxy.specs.declared.proxy.NextReply.{NextReply}
 use Rattle.unftp_control_proxy.specs.declared.proxy.NextReply.TheVariants as given
 use Rattle.unftp_control_proxy.specs.declared.relay.End.TheVariants as end
-use Rattle.unftp_control_proxy.proofs.CallLemmas.{found_only, gives_answer, passes_reply, pieces}
+use Rattle.unftp_control_proxy.proofs.CallLemmas.{found_only, gives_answer, passes_reply, pieces, settled_only}
 use Rattle.unftp_control_proxy.proofs.FilterLemmas.{TookLine, decided_so, filtered_in_turn}
 use Rattle.unftp_control_proxy.proofs.TrafficLemmas.{all-append, are_exchanges, in_turn, nothing, sends_only}
 use Rattle.std.proofs.lemmas.List.Elements.{filter_map-append}
@@ -168,6 +168,20 @@ module _ {S : Type 0} (law : FilterLaw S) where
         subst (Relays law [] [] (giving before out)) (λ i. giving (sym same i) (sym out_is i))
         (relays_nothing (giving before out))
 
+    -- what was given leaves the buffer
+    relays_settled : (before later : ProxyState) (out out' : Bytes) → later ≡ with_settled before
+        → out' ≡ out → Relays law [] [] (giving before out) (giving later out')
+    relays_settled before later out out' is out_is = record {
+      traffic = no_traffic;
+      passed = settled_only before later is;
+      client = refl;
+      server = refl;
+      filtered = refl;
+      as_came = tt;
+      to_client = out_is ∙ sym (append-nil out);
+      to_server = sym (append-nil to_server);
+    }
+
     -- so is what `next_reply` gives
     pub relays_next : (before later : ProxyState) (out out' : Bytes)
         (result : Result (Option NextReply) NextReplyError)
@@ -175,7 +189,7 @@ module _ {S : Type 0} (law : FilterLaw S) where
         → OnErr result (later ≡ before) → OnErr result (out' ≡ out)
         → Relays law [] [] (giving before out) (giving later out')
     relays_next before later out out' (Ok None) gives same out_is =
-        relays_same before later out out' gives.1 gives.0
+        relays_settled before later out out' gives.1 gives.0
     relays_next before later out out' (Ok (Some given.Answered)) gives same out_is =
         relays_answer before later gives.0 out out' gives.2 gives.1
     relays_next before later out out' (Ok (Some (given.Passed code))) gives same out_is =
@@ -340,7 +354,7 @@ module _ (before later : ProxyState) (out out' : Bytes) where
   pub none_is_given : (result : Result (Option NextReply) NextReplyError)
       → IfOk result (λ next. GivesNext before next out out' later)
       → result ≡ Ok None → IsGiven later
-  none_is_given (Ok None) gives is = subst IsGiven (sym gives.1) gives.2
+  none_is_given (Ok None) gives is = gives.2
   none_is_given (Ok (Some reply)) gives is = absurd (cc)
   none_is_given (Err error) gives is = absurd (cc)
 
@@ -369,7 +383,7 @@ pub settled : (before later : ProxyState) → IsLookedFor before later → IsGiv
     → IsSettled later
 settled before later is given none = record {
   given = subst IsGiven (sym is.same)
-      (record { none_due = given.none_due; no_reply = given.no_reply });
+      (record { none_due = given.none_due; no_reply = given.no_reply; settled = given.settled });
   no_line = λ goes_on. (λ i. first_client_line (is.limit i) (lines_of (is.bytes i)))
       ∙ none (sym (ap waits is.same) ∙ goes_on);
 }

@@ -9,7 +9,7 @@ use Rattle.unftp_control_defs.specs.Lines.{IsLine}
 use Rattle.unftp_control_defs.specs.Outcome.{outcome}
 use Rattle.unftp_control_defs.specs.ReplyReader.{FrontReply}
 use Rattle.unftp_control_defs.specs.Room.{LacksRoom}
-use Rattle.unftp_control_read.specs.ReplyDecoding.{BeginsWith, FindsFirst, PendingReplies, no_bytes as no_reply_bytes}
+use Rattle.unftp_control_read.specs.ReplyDecoding.{BeginsWith, FindsFirst, PendingReplies, no_bytes as no_reply_bytes, settled as settled_replies}
 use Rattle.unftp_control_read.specs.declared.decoder.FirstReply.{FirstReply}
 use Rattle.unftp_control_read.specs.declared.errors.NextReplyError.{NextReplyError}
 use Rattle.unftp_control_read.specs.declared.errors.NextReplyError.TheVariants as next
@@ -245,15 +245,21 @@ pub record IsUnasked (proxy : ProxyState) (code : ℕ) : Type 0 where
   pub none_owed : owes_reply proxy.dialogue ≡ false
   pub begins : (used : ℕ) × BeginsWith proxy.server.limit proxy.server.bytes code used
 
--- no answer is due, and no reply is complete
+-- The replies that were given have left the buffer.
+abbrev pub with_settled : ProxyState → ProxyState
+with_settled proxy = record proxy { server = settled_replies proxy.server }
+
+-- no answer is due, no reply is complete, and no reply that was given is in the buffer
 pub record IsGiven (proxy : ProxyState) : Type 0 where
   pub none_due : is_due proxy ≡ false
   pub no_reply : FindsFirst proxy.server.limit proxy.server.bytes (Ok None)
+  pub settled : proxy.server.buffered ≡ length proxy.server.bytes
 
--- There is nothing to be given; or the answer that is due is given; or the reply that is owed next,
+-- There is nothing to be given, and what was given leaves the buffer; or the answer that is due is given; or the reply that is owed next,
 -- as it came; or a reply came that is not owed, and stays.
 abbrev pub GivesNext : ProxyState → Option NextReply → Bytes → Bytes → ProxyState → Type 0
-GivesNext before None out out' later = (out' ≡ out) × (later ≡ before) × IsGiven before
+GivesNext before None out out' later =
+    (out' ≡ out) × (later ≡ with_settled before) × IsGiven later
 GivesNext before (Some given.Answered) out out' later = (reply : FtpReply)
     × (out' ≡ out ++ encoded reply) × GivesAnswer before reply later
 GivesNext before (Some (given.Passed code)) out out' later = (reply : ReplyBytes)

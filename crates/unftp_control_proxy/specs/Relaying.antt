@@ -8,7 +8,7 @@ use Rattle.unftp_control_read.specs.ReplyDecoding.{FindsFirst}
 use Rattle.unftp_control_read.specs.declared.errors.NextReplyError.TheVariants as next
 use Rattle.unftp_control_serve.specs.ClientLines.{first_client_line}
 use Rattle.unftp_control_proxy.specs.Filtering.{AreFiltered, FilterLaw, IsAsked}
-use Rattle.unftp_control_proxy.specs.ProxyCalls.{BeginsTls, IsGiven, IsNextError, IsUnasked, ProxyState, new_proxy, waits}
+use Rattle.unftp_control_proxy.specs.ProxyCalls.{BeginsTls, IsGiven, IsNextError, IsUnasked, ProxyState, is_due, new_proxy, waits}
 use Rattle.unftp_control_proxy.specs.Traffic.{AreAsTheyCame, IsTraffic, Traffic, passed_in}
 use Rattle.unftp_control_proxy.specs.declared.proxy.Limits.{Limits}
 use Rattle.unftp_control_proxy.specs.declared.relay.End.{End}
@@ -93,11 +93,12 @@ pub record IsSettled (proxy : ProxyState) : Type 0 where
   pub no_line : waits proxy ≡ false
       → first_client_line proxy.client.limit (lines_of proxy.client.bytes) ≡ None
 
--- Why nothing more passes: the server's next reply is not owed, or what it sent is no reply, or is
--- longer than a reply may be; or TLS begins.
+-- Why nothing more passes, once an answer that was due is given: the server's next reply is not
+-- owed, or what it sent is no reply, or is longer than a reply may be; or TLS begins.
 abbrev pub IsEnd : ProxyState → End → Type 0
 IsEnd proxy (end.Unasked code) = IsUnasked proxy code
-IsEnd proxy end.Malformed =
-    FindsFirst proxy.server.limit proxy.server.bytes (Err next.Malformed)
-IsEnd proxy end.TooLong = FindsFirst proxy.server.limit proxy.server.bytes (Err next.TooLong)
-IsEnd proxy end.Tls = BeginsTls proxy
+IsEnd proxy end.Malformed = (is_due proxy ≡ false)
+    × FindsFirst proxy.server.limit proxy.server.bytes (Err next.Malformed)
+IsEnd proxy end.TooLong = (is_due proxy ≡ false)
+    × FindsFirst proxy.server.limit proxy.server.bytes (Err next.TooLong)
+IsEnd proxy end.Tls = (is_due proxy ≡ false) × BeginsTls proxy

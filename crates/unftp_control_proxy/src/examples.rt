@@ -2,13 +2,14 @@
 #![tactic(auto, unfolding(unftp_control_defs::proofs::Computing::at_bytes))]
 
 ghost use Rattle.std.specs.Global.{Vec};
-ghost use Rattle.std.specs.Prelude.{◌≡◌, ◌∷◌, ◌++◌, ℕ, List, [], Some, None, codes, false, true};
+ghost use Rattle.std.specs.Prelude.{◌≡◌, ◌∷◌, ◌++◌, ◌+◌, ◌-◌, ◌^◌, ◌<◌, ℕ, List, [], Some, None, codes, false, true, vec_capacity, vec_len};
 ghost use Rattle.unftp_control_defs.specs.Bytes.{Bytes};
 ghost use Rattle.unftp_control_defs.specs.FtpReply.{CodeAndMsg, MultiLine, Nothing, encoded};
 ghost use Rattle.unftp_control_defs.specs.Lines.{lines_of};
 ghost use Rattle.unftp_control_message.specs.declared.reply.error.parse_error.ParseErrorKind.{ParseErrorKind};
 ghost use Rattle.unftp_control_message.specs.declared.reply.error.parse_error.ParseErrorKind.TheVariants.{InvalidCommand};
-ghost use Rattle.unftp_control_read.specs.ReplyDecoding.{pending_replies};
+ghost use Rattle.unftp_control_read.specs.ReplyDecoding.{PendingReplies, pending_replies};
+ghost use Rattle.unftp_control_read.specs.declared.errors.NextReplyError.TheVariants as NextReplyError;
 ghost use Rattle.unftp_control_write.specs.ClearLines.{is_clear};
 ghost use Rattle.unftp_control_client.specs.Dialogue.{after_command, after_reply, new_dialogue, awaits_tls, owes_reply};
 ghost use Rattle.unftp_control_client.specs.declared.dialogue.To.TheVariants.{Command, Greeting};
@@ -16,10 +17,10 @@ ghost use Rattle.unftp_control_proxy.specs.ProxyAnswers.{IsFinalReply, is_answer
 ghost use Rattle.unftp_control_serve.specs.ClientLines.{after_front_line, first_client_line, front_line, unless_too_long};
 ghost use Rattle.unftp_control_serve.specs.Decoder.{found_as, line_in, no_bytes, pushed, without_line};
 ghost use Rattle.unftp_control_serve.specs.declared.decoder.ClientLine.TheVariants as ClientLine;
-ghost use Rattle.unftp_control_proxy.specs.ProxyCalls.{AnsweredBy, Fate, GivesNext, GivesOther, IsDecidable, IsForwardingError, IsGiven, IsReplaceError, IsUnclearError, IsUnsent, MayBeSent, ProxyState, ReplyBytes, SentAs, after_fate, is_due, new_proxy, server_owes, stops, waits};
+ghost use Rattle.unftp_control_proxy.specs.ProxyCalls.{AnsweredBy, Fate, GivesNext, GivesOther, IsAnswerError, IsAppendedError, IsCheckError, IsDecidable, IsForwardingError, IsGiven, IsNextError, IsReplaceError, IsSendError, IsUnclearError, IsUnsent, MayBeSent, ProxyState, ReplyBytes, SentAs, after_fate, is_due, new_proxy, server_owes, stops, waits, with_settled};
 ghost use Rattle.unftp_control_proxy.specs.Traffic.{ChangesNothing, GivesOwn, GivesReply, SendsLine, client_replies, fates_in, given_in, one_line, one_reply};
 ghost use Rattle.unftp_control_proxy.specs.Filtering.{AsItIs, Becomes, Forward, Instead, IsAsked, Reply, Send, fate_by, long_line, refused_line, step_for, told_of};
-ghost use Rattle.unftp_control_proxy.specs.Relaying.{IsEnd, IsSettled};
+ghost use Rattle.unftp_control_proxy.specs.Relaying.{FailsSo, IsEnd, IsSettled, LacksRoomToGive, RelayState};
 ghost use Rattle.unftp_control_proxy.specs.declared.errors.ReplaceError.TheVariants as ReplaceError;
 ghost use Rattle.unftp_control_proxy.specs.declared.errors.SendError.TheVariants as SendError;
 ghost use Rattle.unftp_control_proxy.specs.declared.proxy.Limits.{Limits as RustLimits};
@@ -134,6 +135,82 @@ pub fn errors_have_reasons()
     ensures not_sent { stops SendError.TooLong ≡ false }
 {}
 
+/// Why a line is not sent: here six bytes, which may be sent where it is decidable.
+pub fn sending_fails()
+    ensures waiting { (proxy : ProxyState) → waits proxy ≡ true
+        → IsCheckError proxy (codes "NOOP\r\n") SendError.NoLine }
+    ensures decidable { (proxy : ProxyState) → IsDecidable proxy
+        → ¬ IsCheckError proxy (codes "NOOP\r\n") SendError.NoLine }
+    ensures full { (proxy : ProxyState) → IsDecidable proxy → proxy.limits.sent ≡ 6
+        → proxy.dialogue.sent ≡ 2 ^ 64 - 1
+        → IsAppendedError proxy (codes "NOOP\r\n") SendError.TooManyCommands }
+    ensures one_left { (proxy : ProxyState) → proxy.dialogue.sent ≡ 2 ^ 64 - 2
+        → ¬ IsAppendedError proxy (codes "NOOP\r\n") SendError.TooManyCommands }
+    ensures no_room { (proxy : ProxyState) (out : Vec ℕ) → IsDecidable proxy
+        → proxy.limits.sent ≡ 6 → vec_len out ≡ 3 → vec_capacity out ≡ 8
+        → IsSendError proxy (codes "NOOP\r\n") out SendError.OutOfMemory }
+    ensures room { (proxy : ProxyState) (out : Vec ℕ) → vec_len out ≡ 2 → vec_capacity out ≡ 8
+        → ¬ IsSendError proxy (codes "NOOP\r\n") out SendError.OutOfMemory }
+    ensures no_room_unclear { (proxy : ProxyState) (out : Vec ℕ) → IsDecidable proxy
+        → proxy.limits.sent ≡ 6 → vec_len out ≡ 3 → vec_capacity out ≡ 8
+        → IsUnclearError proxy (codes "NOOP\r\n") out SendError.OutOfMemory }
+    ensures room_unclear { (proxy : ProxyState) (out : Vec ℕ) → vec_len out ≡ 2
+        → vec_capacity out ≡ 8
+        → ¬ IsUnclearError proxy (codes "NOOP\r\n") out SendError.OutOfMemory }
+    ensures never_unclear { (proxy : ProxyState) (out : Vec ℕ)
+        → ¬ IsUnclearError proxy (codes "NO\rP\r\n") out SendError.Unclear }
+{}
+
+/// Why a line is not answered with a reply: it is not final, and else not plain.
+pub fn answering_fails()
+    ensures not_final { (proxy : ProxyState) → IsDecidable proxy
+        → IsAnswerError proxy (CodeAndMsg 150 (codes "a")) SendError.NotFinal }
+    ensures is_final { (proxy : ProxyState)
+        → ¬ IsAnswerError proxy (CodeAndMsg 200 (codes "a\nb")) SendError.NotFinal }
+    ensures not_plain { (proxy : ProxyState) → IsDecidable proxy
+        → IsAnswerError proxy (CodeAndMsg 200 (codes "a\nb")) SendError.NotPlain }
+    ensures not_final_first { (proxy : ProxyState)
+        → ¬ IsAnswerError proxy (CodeAndMsg 150 (codes "a\nb")) SendError.NotPlain }
+    ensures no_memory { (proxy : ProxyState)
+        → ¬ IsAnswerError proxy (CodeAndMsg 200 (codes "a")) SendError.OutOfMemory }
+{}
+
+/// Why a reply is not replaced, or none is given: here the greeting is owed.
+pub fn replacing_fails()
+    ensures part { (proxy : ProxyState) (out : Vec ℕ) → proxy.server.limit ≡ None
+        → proxy.server.bytes ≡ codes "220 a\r" → IsReplaceError proxy [] out ReplaceError.NoReply }
+    ensures whole { (proxy : ProxyState) (out : Vec ℕ) → proxy.server.limit ≡ None
+        → proxy.server.bytes ≡ codes "220 a\r\n"
+        → ¬ IsReplaceError proxy [] out ReplaceError.NoReply }
+    ensures other_code { (proxy : ProxyState) (out : Vec ℕ) → proxy.dialogue ≡ new_dialogue
+        → proxy.server.limit ≡ None → proxy.server.bytes ≡ codes "220 a\r\n"
+        → IsReplaceError proxy (codes "120 b\r\n") out ReplaceError.AnotherReply }
+    ensures same_code { (proxy : ProxyState) (out : Vec ℕ)
+        → proxy.server.bytes ≡ codes "220 a\r\n"
+        → ¬ IsReplaceError proxy (codes "220 b\r\n") out ReplaceError.AnotherReply }
+    ensures room { (proxy : ProxyState) (out : Vec ℕ) → vec_len out ≡ 1 → vec_capacity out ≡ 8
+        → ¬ IsReplaceError proxy (codes "220 b\r\n") out ReplaceError.OutOfMemory }
+    ensures malformed { (proxy : ProxyState) (out : Vec ℕ) → is_due proxy ≡ false
+        → proxy.server.limit ≡ Some 6 → proxy.server.bytes ≡ codes "21 a\r\n"
+        → IsNextError proxy out NextReplyError.Malformed }
+    ensures due { (proxy : ProxyState) (out : Vec ℕ) → is_due proxy ≡ true
+        → ¬ IsNextError proxy out NextReplyError.Malformed }
+{}
+
+/// Why a call of a relay fails: there is no room for what is to be given, here 20 bytes; or the
+/// filter is asked.
+pub fn relays_fail()
+    ensures no_room { (state : RelayState ℕ) (out : Vec ℕ)
+        → out.items ≡ state.to_client → state.proxy.answer ≡ Some refused_reply
+        → state.proxy.dialogue ≡ after_reply new_dialogue 220
+        → vec_capacity out < vec_len out + 20 → LacksRoomToGive state }
+    ensures nothing_to_give { (state : RelayState ℕ) → state.proxy.answer ≡ None
+        → state.proxy.server.bytes ≡ [] → ¬ LacksRoomToGive state }
+    ensures asked { (state : RelayState ℕ) → IsAsked state.proxy → FailsSo state }
+    ensures not_asked { (state : RelayState ℕ) → state.proxy.answer ≡ None
+        → state.proxy.server.bytes ≡ [] → waits state.proxy ≡ true → ¬ FailsSo state }
+{}
+
 /// What `next_reply` and `replace_reply` give: a whole reply, or another of its code.
 pub fn replies_are_given()
     ensures passed { (limits : RustLimits) → let before : ProxyState =
@@ -238,6 +315,11 @@ pub fn relays_settle()
     ensures owed { (proxy : ProxyState) → proxy.dialogue ≡ new_dialogue
         → ¬ IsEnd proxy (End.Unasked 421) }
     ensures not_given { (proxy : ProxyState) → is_due proxy ≡ true → ¬ IsGiven proxy }
+    ensures given_is_kept { (proxy : ProxyState) → proxy.server.bytes ≡ []
+        → proxy.server.buffered ≡ 7 → ¬ IsGiven proxy }
+    ensures settled { (limits : RustLimits) (server : PendingReplies) → with_settled
+        (record (new_proxy limits) { server = record server { bytes = codes "2"; buffered = 8 } })
+        ≡ record (new_proxy limits) { server = record server { bytes = codes "2"; buffered = 1 } } }
     ensures line_left { (proxy : ProxyState) → waits proxy ≡ false
         → proxy.client.bytes ≡ codes "NOOP\r\n" → ¬ IsSettled proxy }
     ensures asked { (limits : RustLimits) → let proxy : ProxyState =
@@ -252,7 +334,14 @@ pub fn relays_settle()
     ensures refused { (proxy : ProxyState) → proxy.dialogue
         ≡ after_reply (after_command (codes "AUTH TLS\r\n") (after_reply new_dialogue 220)) 502
         → ¬ IsEnd proxy End.Tls }
-    ensures agreed { (proxy : ProxyState) → proxy.dialogue
+    ensures answer_first { (proxy : ProxyState) → is_due proxy ≡ true
+        → ¬ IsEnd proxy End.Malformed }
+    ensures answer_before_tls { (proxy : ProxyState) → is_due proxy ≡ true
+        → ¬ IsEnd proxy End.Tls }
+    ensures malformed { (proxy : ProxyState) → is_due proxy ≡ false
+        → proxy.server.limit ≡ Some 6 → proxy.server.bytes ≡ codes "21 a\r\n"
+        → IsEnd proxy End.Malformed }
+    ensures agreed { (proxy : ProxyState) → is_due proxy ≡ false → proxy.dialogue
         ≡ after_reply (after_command (codes "AUTH TLS\r\n") (after_reply new_dialogue 220)) 234
         → IsEnd proxy End.Tls }
 {}

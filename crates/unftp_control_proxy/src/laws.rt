@@ -155,8 +155,11 @@ pub fn relays_are_joined<F: Filter>()
         (after_written to_client to_server after) }
 {}
 
-/// Where a relay is settled, less of what the server sent is held than a reply may have.
+/// Where a relay is settled, its buffer holds less of what the server sent than a reply may have:
+/// a part of a reply, and none that was given.
 pub fn little_is_held()
-    ensures { (proxy : ProxyState) → IsSettled proxy
-        → IfSome proxy.server.limit (λ limit. length proxy.server.bytes < limit) }
+    ensures buffered { (proxy : ProxyState) → IsSettled proxy
+        → IfSome proxy.server.limit (λ limit. proxy.server.buffered < limit) }
+    ensures pending { (proxy : ProxyState) → IsSettled proxy
+        → proxy.server.buffered ≡ length proxy.server.bytes }
 {}

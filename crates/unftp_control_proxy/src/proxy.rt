@@ -152,7 +152,8 @@ impl Proxy {
 
     /// What the client's next line is; or `None` where none is complete. `line` then returns its
     /// bytes, until it is decided. It may be decided only where the proxy doesn't wait for the
-    /// server. It takes no memory, and no byte is scanned for a line feed twice.
+    /// server. It takes no memory, and scans no byte for a line feed twice. A call that sends a line
+    /// reads it once more, to see that it is one clear line.
     ///
     /// Where it returns `None`, fewer bytes of the client are held than a line may have: so where
     /// it does before each piece, never more than the limit and one piece.
@@ -377,7 +378,8 @@ impl Proxy {
 
     /// Appends what the client is given next: the proxy's own answer, once the server owes no
     /// reply; or the server's next reply, as it came (RFC 959, section 4.2). `None` where none is
-    /// complete.
+    /// complete: then less of what the server sent is held than a reply may have, so where all are
+    /// given before each piece, never more than the limit and one piece.
     ///
     /// `Malformed` and `TooLong` are returned from then on. `OutOfMemory` comes only where
     /// `to_client` has no room for the answer that is due, or for a reply that is owed: the next
@@ -428,6 +430,7 @@ impl Proxy {
         ensures why { IfErr result (IsNextError self.old to_client.old) }
     {
         let Some(first) = self.server.find_first()? else {
+            self.server.settle();
             return Ok(None);
         };
         if !self.dialogue.owes_reply() {
@@ -437,13 +440,13 @@ impl Proxy {
         if to_client.extend_from_slice(reply).is_err() {
             return Err(NextReplyError::OutOfMemory);
         }
-        self.settle(first);
+        self.note_reply(first);
         Ok(Some(NextReply::Passed(first.code)))
     }
 
     /// The server's first reply was given, or another one in its place: it is owed no longer, and
     /// its bytes are removed.
-    fn settle(&mut self, first: FirstReply)
+    fn note_reply(&mut self, first: FirstReply)
         requires { first.length ≤ length self.old.server.bytes }
         ensures { self.new ≡ record self.old {
           server = record self.old.server { bytes = drop first.length self.old.server.bytes };
@@ -495,7 +498,7 @@ impl Proxy {
         if to_client.extend_from_slice(other).is_err() {
             return Err(ReplaceError::OutOfMemory);
         }
-        self.settle(first);
+        self.note_reply(first);
         Ok(())
     }
 

@@ -6,15 +6,17 @@ ghost use Rattle.unftp_control_proxy.specs.ProxyCalls.{IsUnsent, MayBeSent};
 use crate::errors::SendError;
 use unftp_control_write::{is_clear, is_line};
 
-/// Whether the line may be sent to the server, and if not, why.
+/// Whether the line may be sent to the server, and if not, why. One that is clear is one line, so
+/// its bytes are looked at once.
+#[tactic(auto, using(crate::proofs::FilterLemmas::clear_is_line))]
 pub(crate) fn check(limit: usize, line: &[u8]) -> Result<(), SendError>
     ensures ok { IsOk result → MayBeSent limit line.now }
     ensures why { IfErr result (λ error. IsUnsent limit line.now error) }
 {
-    if !is_line(line) {
-        return Err(SendError::NotALine);
-    }
     if !is_clear(line) {
+        if !is_line(line) {
+            return Err(SendError::NotALine);
+        }
         return Err(SendError::Unclear);
     }
     if line.len() > limit {

@@ -36,3 +36,8 @@ read_part old zeros room tail {grown} {front} {len} {all} n grown_is len_is all_
     )))
     ∙ (λ i. take (len_is i + n) (same i ++ room))
     ∙ take-append-add old room n
+
+-- the bytes before the zeros
+pub before_room : (old zeros : Bytes) {grown : Bytes} {len : ℕ}
+    → grown ≡ old ++ zeros → len ≡ length old → take len grown ≡ old
+before_room old zeros {grown} {len} is long = ap (take len) is ∙ take_at old zeros len (sym long)

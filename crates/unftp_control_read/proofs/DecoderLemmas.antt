@@ -1,5 +1,5 @@
 -- The pending bytes of a reply decoder, of which a search sees those that a reply may have.
-use Rattle.std.proofs.Common.{◌≡◌, ℕ, zero, suc, ◌<◌, ◌≤◌, Option, Some, None, Ok, Err, Result, List, [], ◌∷◌, ◌++◌, length, take, drop, refl, sym, ap, subst, ◌∙◌, arith, length-append}
+use Rattle.std.proofs.Common.{◌≡◌, append-nil, ℕ, zero, suc, ◌<◌, ◌≤◌, Option, Some, None, Ok, Err, Result, List, [], ◌∷◌, ◌++◌, length, take, drop, refl, sym, ap, subst, ◌∙◌, arith, length-append}
 use Rattle.std.specs.Prelude.{IfSome}
 use Rattle.std.proofs.lemmas.List.{take_all, drop-append-le, length-take}
 use Rattle.unftp_control_defs.specs.Bytes.{Bytes}
@@ -139,8 +139,11 @@ module _ {limit : Option ℕ} {s : Search} {buf : Bytes} {start held capacity : 
   )
 
   module _ (most : ℕ) (input input' : InputState) where
-    pub decoder_read : (n : ℕ) {held' capacity' : ℕ} → held' ≤ capacity'
-        → AppendsPiece most buf after input input' (Ok n)
+    pub decoder_read : (result : Result ℕ ReceiveError) {held' capacity' : ℕ} → held' ≤ capacity'
+        → AppendsPiece most buf after input input' result
         → IsReplyDecoder limit s after start held' capacity'
-    decoder_read n room h =
+    decoder_read (Ok n) room h =
         let more = after_piece h.0 h.1 in decoder_more well after h.0 start more.0 more.1 room
+    decoder_read (Err error) room h =
+        let more = after_piece [] (h.0 ∙ sym (append-nil buf)) in
+        decoder_more well after [] start more.0 more.1 room

@@ -1,12 +1,12 @@
 -- Replies that are read from a reader.
-use Rattle.std.specs.Prelude.{◌≡◌, ℕ, ◌+◌, ◌≤◌, ◌⊎◌, List, Option, None, Ok, Err, Result, MatchOption, MatchResult, [], ◌∷◌, ◌++◌, length}
+use Rattle.std.specs.Prelude.{◌≡◌, ℕ, ◌+◌, ◌≤◌, ◌⊎◌, List, Option, None, Ok, Err, Result, MatchOption, MatchResult, [], ◌∷◌, ◌++◌, length, max}
 use Rattle.std.specs.List.{concat}
 use Rattle.std.specs.Io.KnownBytes.{IsAtEnd}
 use Rattle.unftp_control_defs.specs.Bytes.{Bytes}
 use Rattle.unftp_control_defs.specs.Input.{InputState, HasRead, WereRead}
 use Rattle.unftp_control_defs.specs.ReplyReader.{HasFront, IsMalformed}
 use Rattle.unftp_control_defs.specs.ReplyLimit.{IsTooLongReply, within_limit}
-use Rattle.unftp_control_read.specs.ReplyDecoding.{HasNoReply, IsShortPart, NextReply, PendingReplies, TakesFirst, appended, content}
+use Rattle.unftp_control_read.specs.ReplyDecoding.{HasNoReply, IsShortPart, NextReply, PendingReplies, TakesFirst, after_read, appended, content, with_room}
 use Rattle.unftp_control_read.specs.declared.errors.NextReplyError.{NextReplyError}
 use Rattle.unftp_control_read.specs.declared.errors.NextReplyError.TheVariants as next
 use Rattle.unftp_control_read.specs.declared.errors.ReceiveError.{ReceiveError}
@@ -19,24 +19,31 @@ FailsToRead before after (Read _) = HasRead before after []
 FailsToRead before after OutOfMemory = after ≡ before
 FailsToRead before after _ = ⊥
 
--- What one read appends: at Ok what it gave, which is nothing only at the end.
-abbrev pub AppendsRead : {A : Type 0} → (A → Bytes → A) → ℕ → A → A → InputState → InputState
-    → Result ℕ ReceiveError → Type 0
-AppendsRead append most before after input input' result = MatchResult result
+-- what an error leaves of the pending bytes: the buffer had room for the read, unless there was no
+-- memory for it
+abbrev pub after_failure : PendingReplies → ReceiveError → PendingReplies
+after_failure pending OutOfMemory = pending
+after_failure pending _ = with_room pending
+
+-- What one read appends: at Ok what it gave, which is nothing only at the end; at an error it
+-- leaves this.
+abbrev pub AppendsRead : {A : Type 0} → (A → Bytes → A) → (A → ReceiveError → A) → ℕ → A → A
+    → InputState → InputState → Result ℕ ReceiveError → Type 0
+AppendsRead append fail most before after input input' result = MatchResult result
     (λ n. (piece : Bytes) × (after ≡ append before piece) × (length piece ≡ n) × (n ≤ most)
     × HasRead input input' piece × (input'.reads ≡ input.reads ++ n ∷ [])
     × (input'.failures ≡ input.failures) × (n ≡ 0 → IsAtEnd input'.remaining))
-    (λ error. (after ≡ before) × FailsToRead input input' error)
+    (λ error. (after ≡ fail before error) × FailsToRead input input' error)
 
 -- to the bytes of the buffer
 abbrev pub AppendsPiece : ℕ → Bytes → Bytes → InputState → InputState
     → Result ℕ ReceiveError → Type 0
-AppendsPiece = AppendsRead (λ bytes piece. bytes ++ piece)
+AppendsPiece = AppendsRead (λ bytes piece. bytes ++ piece) (λ bytes error. bytes)
 
 -- and to the pending bytes
 abbrev pub AppendsPending : ℕ → PendingReplies → PendingReplies → InputState → InputState
     → Result ℕ ReceiveError → Type 0
-AppendsPending = AppendsRead appended
+AppendsPending = AppendsRead after_read after_failure
 
 -- the error of `next_reply`, as an error of `read_reply`
 abbrev pub failure_of : NextReplyError → ReceiveError
@@ -70,6 +77,19 @@ abbrev pub end_read : NextReply ReceiveError → List ℕ
 end_read (Ok None) = 0 ∷ []
 end_read _ = []
 
+-- What the last read gave where it is none of the pieces: nothing, at the end or at a failure.
+abbrev pub last_read : NextReply ReceiveError → List Bytes
+last_read (Ok None) = [] ∷ []
+last_read (Err (Read _)) = [] ∷ []
+last_read _ = []
+
+-- The most bytes that the buffer has held, where it held so many, so many were pending, and then
+-- reads gave these pieces: before each it holds the pending bytes, and room for 4,096 more.
+abbrev pub held_by_reads : (held pending : ℕ) → List Bytes → ℕ
+held_by_reads held pending [] = held
+held_by_reads held pending (piece ∷ pieces) =
+    held_by_reads (max held (pending + 4096)) (pending + length piece) pieces
+
 -- how many reads failed
 abbrev pub failed_reads : NextReply ReceiveError → ℕ
 failed_reads (Err (Read _)) = 1
@@ -91,3 +111,6 @@ pub record Receives (before : PendingReplies) (input : InputState)
       × (after.bytes ≡ before.bytes ++ concat pieces))
   -- and it was read only where it had to be
   pub needed : IsNeeded before pieces
+  -- the buffer has held what each read had room for
+  pub held : after.held
+      ≡ held_by_reads before.held (length before.bytes) (pieces ++ last_read result)

@@ -50,12 +50,18 @@ pending_replies limit bytes buffered held =
 abbrev pub settled : PendingReplies → PendingReplies
 settled pending = record pending { buffered = length pending.bytes }
 
--- A piece comes after them, in the buffer too.
+-- A piece comes after them.
 abbrev pub appended : PendingReplies → Bytes → PendingReplies
-appended pending piece = record pending {
-  bytes = pending.bytes ++ piece;
+appended pending piece = record pending { bytes = pending.bytes ++ piece }
+
+-- The buffer had room for a read, of 4,096 bytes;
+abbrev pub with_room : PendingReplies → PendingReplies
+with_room pending = record pending { held = max pending.held (pending.buffered + 4096) }
+
+-- and this piece was read into it.
+abbrev pub after_read : PendingReplies → Bytes → PendingReplies
+after_read pending piece = record (with_room (appended pending piece)) {
   buffered = pending.buffered + length piece;
-  held = max pending.held (pending.buffered + length piece);
 }
 
 -- A piece comes after them, and the replies that were taken may leave the buffer.

@@ -8,7 +8,7 @@ ghost use Rattle.unftp_control_read.specs.ReplyDecoding.{FindsFirst, IsReturned,
 ghost use Rattle.unftp_control_read.specs.Receiving.{AppendsPending};
 
 use crate::errors::{NextReplyError, ReceiveError};
-use crate::receiving::read_after;
+use crate::receiving::{add_room, read_after};
 use crate::reply::ReceivedReply;
 use crate::search::Search;
 use crate::{FoundReply, Front, read_front};
@@ -166,8 +166,8 @@ impl ReplyDecoder {
     /// returns `None` where they are only a part of one. The search goes on where it stopped before
     /// the last piece. No line is copied and no memory is taken, so it is never `OutOfMemory`.
     ///
-    /// For a proxy, which passes a reply on as it came: `pending` has its bytes, and `consume`
-    /// removes them.
+    /// For a proxy, which passes a reply on as it came: `pending` has its bytes, `consume` removes
+    /// them, and `settle` lets them leave the buffer.
     pub fn find_first(&mut self) -> Result<Option<FirstReply>, NextReplyError>
         ensures finds { FindsFirst self.old.limit self.old.bytes result }
         ensures same { self.new ≡ self.old }
@@ -195,8 +195,10 @@ impl ReplyDecoder {
         self.search.restart();
     }
 
-    /// Removes the replies that were taken: the pending bytes move to the start of the buffer.
-    fn settle(&mut self)
+    /// Removes the replies that were taken or consumed from the buffer: the pending bytes move to
+    /// its start, and it holds only them. `next_reply` does so where it returns `None`. It is for a
+    /// caller that uses `find_first` and `consume`, once there is no further reply.
+    pub fn settle(&mut self)
         ensures { self.new ≡ settled self.old }
     {
         self.buffer.settle();
@@ -211,7 +213,7 @@ impl ReplyDecoder {
     }
 
     /// Reads once, and appends what is read to the pending bytes. When out of memory, nothing is
-    /// read.
+    /// read. The room for a read is held, whatever it gives.
     pub(crate) fn fill_from<R: Read>(
         &mut self,
         reader: &mut Input<R>,
@@ -219,9 +221,10 @@ impl ReplyDecoder {
         ensures { AppendsPending PIECE self.old self.new
             (input_state_of R.remaining reader.old) (input_state_of R.remaining reader.new) result }
     {
-        let count = read_after(&mut self.buffer.bytes, reader)?;
+        let len = self.buffer.bytes.len();
+        add_room(&mut self.buffer.bytes)?;
         self.held.raise_to(self.buffer.bytes.len());
-        Ok(count)
+        read_after(&mut self.buffer.bytes, len, reader)
     }
 }
 

@@ -13,6 +13,7 @@ ghost use Rattle.unftp_control_read.specs.declared.FoundReply.{FoundReply as Rus
 mod copying;
 mod decoder;
 mod errors;
+pub mod examples;
 mod lines;
 mod opening;
 mod receiving;

@@ -1,5 +1,5 @@
 //! Replies from a reader.
-ghost use Rattle.std.specs.Prelude.{◌≡◌, ◌+◌, ◌≤◌, None, Ok, Some, length, max, ◌++◌, replicate, vec_capacity, IfSome, OnOk, OnErr};
+ghost use Rattle.std.specs.Prelude.{◌≡◌, ◌≢◌, ◌+◌, ◌≤◌, None, Ok, Some, length, max, ◌++◌, replicate, take, vec_capacity, vec_len, IfErr, IfSome, OnOk, OnErr};
 ghost use Rattle.unftp_control_defs.specs.Bytes.{Bytes};
 ghost use Rattle.unftp_control_defs.specs.Input.{InputState, input_state_of};
 ghost use Rattle.unftp_control_defs.specs.ReplyReader.{IsPartial};
@@ -16,7 +16,7 @@ use std::io::Read;
 use unftp_control_defs::input::{Input, PIECE};
 
 /// Appends as many zeros as are read at a time.
-fn add_room(buf: &mut Vec<u8>) -> Result<(), AllocError>
+pub(crate) fn add_room(buf: &mut Vec<u8>) -> Result<(), AllocError>
     ensures ok { OnOk result (buf.new.items ≡ buf.old.items ++ replicate PIECE 0) }
     ensures err { OnErr result (buf.new.items ≡ buf.old.items) }
     ensures capacity { vec_capacity buf.old ≤ vec_capacity buf.new }
@@ -27,17 +27,18 @@ fn add_room(buf: &mut Vec<u8>) -> Result<(), AllocError>
     }
 }
 
-/// Reads once, and appends what is read. When out of memory, nothing is read.
+/// Reads once, and leaves what is read after the first `len` bytes, where the buffer has room.
 pub(crate) fn read_after<R: Read>(
     buf: &mut Vec<u8>,
+    len: usize,
     reader: &mut Input<R>,
 ) -> Result<usize, ReceiveError>
-    ensures appends { AppendsPiece PIECE buf.old.items buf.new.items
+    requires { vec_len buf.old ≡ len + PIECE }
+    ensures appends { AppendsPiece PIECE (take len buf.old.items) buf.new.items
         (input_state_of R.remaining reader.old) (input_state_of R.remaining reader.new) result }
-    ensures capacity { vec_capacity buf.old ≤ vec_capacity buf.new }
+    ensures read { IfErr result (λ error. error ≢ ReceiveError.OutOfMemory) }
+    ensures capacity { vec_capacity buf.new ≡ vec_capacity buf.old }
 {
-    let len = buf.len();
-    add_room(buf)?;
     let (_, room) = buf.as_mut_slice().split_at_mut(len);
     match reader.read(room) {
         Ok(n) => {
@@ -74,6 +75,8 @@ impl ReplyDecoder {
             length self.new.bytes ≤ max (length self.old.bytes) (limit + 4095)) }
         ensures buffered { IfSome self.old.limit (λ limit.
             self.new.buffered ≤ max self.old.buffered (limit + 4095)) }
+        ensures held { IfSome self.old.limit (λ limit.
+            self.new.held ≤ max self.old.held (limit + 4095)) }
     {
         for _turn in 0..u64::MAX {
             if let Some(reply) = self.next_reply()? {

@@ -33,7 +33,7 @@ returns-clause-ok c =
       lines = begins.lines;
       bytes = take first.length server.bytes;
     } in
-    let takes : TakesReplyBytes server reply c.settle.new.self.server = record {
+    let takes : TakesReplyBytes server reply c.note_reply.new.self.server = record {
       used = first.length;
       front = begins.front;
       within = begins.within;
@@ -46,7 +46,7 @@ returns-clause-ok c =
       record {
         owed = search rules;
         takes = takes;
-        whole = takes_whole server reply c.settle.new.self.server takes;
+        whole = takes_whole server reply c.note_reply.new.self.server takes;
         same_code = refl;
         later_is = search rules;
       },

@@ -1,7 +1,21 @@
-use Rattle.std.proofs.Common.{arith}
+use Rattle.std.proofs.Common.{arith, replicate, ◌∙◌}
+use Rattle.unftp_control_read.proofs.BufferLemmas.{before_room}
 use Rattle.unftp_control_read.proofs.DecoderLemmas.{decoder_read}
 use Rattle.unftp_control_read.proofs.decoder.ReplyDecoder.fill_from.Goals as goal
 
 pub invariant_of-self-2 : goal.invariant_of-self-2
 invariant_of-self-2 g c =
-    decoder_read c.self.invariant _ _ _ _ _ (omega arith) c.in_ok-count.ensures.appends
+    let old = c.self.inside.buffer.bytes in
+    let same = before_room old.items (replicate 4096 0) c.in_ok-add_room.ensures.ok
+    (c.len-len.ensures ∙ old.ok.0) in
+    decoder_read c.self.invariant _ _ _ _ c.read_after.result
+    (omega (
+      arith,
+      c.raise_to.ensures,
+      c.len.ensures,
+      c.add_room.new.buf.ok,
+      c.read_after.ensures.capacity,
+      c.in_ok-add_room.ensures.capacity,
+      c.self.invariant.room,
+    ))
+    (rw same at c.read_after.ensures.appends)

@@ -1,5 +1,5 @@
 use Rattle.unftp_control_log.proofs.LawLemmas.{lines_held, replies_held}
-use Rattle.unftp_control_log.proofs.laws.no_more_is_held_than_a_limit.Goals as goal
+use Rattle.unftp_control_log.proofs.laws.incomplete_side_is_bounded.Goals as goal
 
 pub returns : goal.returns
 returns c = record {
