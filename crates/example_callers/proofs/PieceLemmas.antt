@@ -10,7 +10,7 @@ use Rattle.unftp_control_defs.specs.Bytes.{Bytes}
 use Rattle.unftp_control_defs.specs.Events.{events}
 use Rattle.unftp_control_defs.specs.Run.{SessionLaw, run_for}
 use Rattle.unftp_control_serve.specs.Endings.{AllAnswered, PieceOutcome, Snapshot}
-use Rattle.unftp_control_serve.specs.Engine.{EngineState, IsRunning, LacksPieceRoom, bytes_with, fed, more_left}
+use Rattle.unftp_control_serve.specs.Engine.{EngineState, IsFed, IsRunning, LacksPieceRoom, bytes_with, more_left}
 use Rattle.unftp_control_serve.specs.declared.error.ServeError.{ServeError}
 use Rattle.unftp_control_serve.proofs.SoFarLemmas.{AnsweredSoFar, AnsweredSoFar-ended, AnsweredSoFar-on, RunFailed-on, gone_on}
 use Rattle.example_callers.specs.Pieces.{FailsAtPiece}
@@ -25,7 +25,7 @@ pub record ComesAfter (sent piece : Bytes) (pieces : List Bytes) : Type 0 where
 module _ {S : Type 0} {law : SessionLaw S} {m n : Snapshot S} {sent : Bytes} {engine : EngineState}
     (so_far : AnsweredSoFar None law m n sent engine) (piece : Bytes) where
   pub AnsweredSoFar-more : {k : Snapshot S} {engine' : EngineState}
-      → (IsRunning engine → engine' ≡ fed law n.state engine piece)
+      → (IsRunning engine → IsFed law n.state engine piece engine')
       → (IsRunning engine
       → AllAnswered law n (run_for engine.limit law n.state (bytes_with engine piece)) k)
       → (engine.finished ≡ true → (k ≡ n) × (engine' ≡ more_left engine piece))
@@ -34,8 +34,9 @@ module _ {S : Type 0} {law : SessionLaw S} {m n : Snapshot S} {sent : Bytes} {en
     where
       by_end : (finished : Bool) → engine.finished ≡ finished
           → AnsweredSoFar None law m k (sent ++ piece) engine'
-      by_end false on = rw (is (so_far.no_failure, on))
-          (AnsweredSoFar-on so_far on piece (answered (so_far.no_failure, on)))
+      by_end false on = let fed = is (so_far.no_failure, on) in
+          rw fed.is (AnsweredSoFar-on so_far on piece engine'.scanned fed.scanned
+          (answered (so_far.no_failure, on)))
       by_end true done = rw ((over done).1, (over done).0) (AnsweredSoFar-ended so_far done piece)
 
   -- at an error of `feed`

@@ -1,5 +1,5 @@
 -- What the examples speak of.
-use Rattle.std.specs.Prelude.{ℕ, false, List, [], ◌∷◌, codes, map, None}
+use Rattle.std.specs.Prelude.{ℕ, false, List, [], ◌∷◌, ◌++◌, codes, map, None}
 use Rattle.unftp_control_defs.specs.Bytes.{Bytes}
 use Rattle.unftp_control_defs.specs.Events.{FtpEvent, Command}
 use Rattle.unftp_control_defs.specs.FtpCommand.{Retr, Stor}
@@ -34,6 +34,10 @@ all_data_sent = Opened ∷ Took abc 1 ∷ Took (codes "bc") 2 ∷ Closed ∷ []
 
 abbrev pub all_received : List DataAnswer
 all_received = Opened ∷ Gave (codes "x") ∷ Gave (codes "yz") ∷ Gave [] ∷ Closed ∷ []
+
+-- all that was received is sent back
+abbrev pub stored_and_sent : List DataAnswer
+stored_and_sent = all_received ++ Opened ∷ Took (codes "xyz") 3 ∷ Closed ∷ []
 
 abbrev pub code_in : FtpReply → ℕ
 code_in (CodeAndMsg code text) = code

@@ -14,17 +14,17 @@ use Rattle.example_callers.specs.declared.transfers.session.Transfers.{Transfers
 
 -- ---- one transfer
 
--- how it ended, after how many answers, and which bytes were transferred
+-- how it ended, after how many calls, and which bytes were transferred
 pub record TransferOutcome : Type 0 where
   pub ending : Ending
   pub used : ℕ
   pub bytes : Bytes
 
--- after so many answers and no bytes
+-- after so many calls and no bytes
 abbrev pub ends_after : ℕ → Ending → TransferOutcome
 ends_after used ending = record { ending = ending; used = used; bytes = [] }
 
--- after so many answers and these bytes
+-- after so many calls and these bytes
 abbrev pub preceded_by : ℕ → Bytes → TransferOutcome → TransferOutcome
 preceded_by n bytes later = record {
   ending = later.ending;
@@ -33,10 +33,11 @@ preceded_by n bytes later = record {
 }
 
 -- The connection is closed, then all is done. Here and below an answer to any other call is not
--- used.
+-- used; and the call is made in any case, so it counts also where there is no answer.
 abbrev pub closing : List DataAnswer → TransferOutcome
 closing (Closed ∷ answers) = ends_after 1 Complete
 closing (CloseFailed ∷ answers) = ends_after 1 NotClosed
+closing [] = ends_after 1 NotClosed
 closing _ = ends_after 0 NotClosed
 
 -- These bytes are offered, each time all that are left, until it took them, and then it is closed.
@@ -48,6 +49,7 @@ sending (b ∷ bytes) (Took offered (suc n) ∷ answers) = if bytes_eq offered (
 sending (b ∷ bytes) (Took offered zero ∷ answers) =
     ends_after (if bytes_eq offered (b ∷ bytes) then 1 else 0) Aborted
 sending (b ∷ bytes) (SendFailed ∷ answers) = ends_after 1 Aborted
+sending (b ∷ bytes) [] = ends_after 1 Aborted
 sending (b ∷ bytes) _ = ends_after 0 Aborted
 
 -- Bytes are received until it gives none, and then it is closed.
@@ -55,12 +57,14 @@ abbrev pub receiving : List DataAnswer → TransferOutcome
 receiving (Gave [] ∷ answers) = preceded_by 1 [] (closing answers)
 receiving (Gave (b ∷ bytes) ∷ answers) = preceded_by 1 (b ∷ bytes) (receiving answers)
 receiving (ReceiveFailed ∷ answers) = ends_after 1 Aborted
+receiving [] = ends_after 1 Aborted
 receiving _ = ends_after 0 Aborted
 
 -- First of all it is opened.
 abbrev pub with_opening : (List DataAnswer → TransferOutcome) → List DataAnswer → TransferOutcome
 with_opening transfer (Opened ∷ answers) = preceded_by 1 [] (transfer answers)
 with_opening transfer (OpenFailed ∷ answers) = ends_after 1 NotOpened
+with_opening transfer [] = ends_after 1 NotOpened
 with_opening transfer _ = ends_after 0 NotOpened
 
 -- a transfer of the file from here on
@@ -71,7 +75,7 @@ transfer_outcome Store bytes = with_opening receiving
 -- ---- the session
 
 -- Which transfer is to follow; where in the file it begins (RFC 3659, section 5); the file; how many
--- answers of the data connection were used; and whether QUIT came.
+-- calls of the data connection were made; and whether QUIT came.
 pub record TransferState : Type 0 where
   pub pending : Option Transfer
   pub offset : ℕ

@@ -6,16 +6,16 @@
 //! error.
 #![tactic(auto)]
 
-ghost use Rattle.std.specs.Prelude.{◌≤◌, ◌+◌, ℕ, IfErr, IfOk, OnOk, Some};
+ghost use Rattle.std.specs.Prelude.{◌≡◌, ◌≤◌, ◌+◌, [], IfErr, IfOk, OnOk, Some};
 ghost use Rattle.unftp_control_defs.specs.Bytes.{Bytes};
 ghost use Rattle.unftp_control_defs.specs.Input.{HasRead, input_state_of};
+ghost use Rattle.unftp_control_login.specs.Asked.{IsClosed};
+ghost use Rattle.unftp_control_login.specs.CallsOf.{failures_of};
+ghost use Rattle.unftp_control_login.specs.GateState.{gate_snapshot, gated};
 ghost use Rattle.unftp_control_login.specs.Promises.{MembersAlone};
-ghost use Rattle.unftp_control_login.specs.Gate.{Gated};
-ghost use Rattle.unftp_control_login.specs.SessionState.{snapshot};
 ghost use Rattle.unftp_control_serve.specs.Service.{ServeEnded, Serves};
 ghost use Rattle.unftp_control_serve.specs.Writing.{HasWritten, output_state_of};
-ghost use Rattle.login_demo.specs.declared.session.Session.{Session};
-ghost use Rattle.login_demo.specs.Guarded.{first_snapshot, guarded_law};
+ghost use Rattle.login_demo.specs.Guarded.{failures_of_files, first_gate, guarded_law, state_of_files};
 
 mod accounts;
 mod examples;
@@ -32,7 +32,7 @@ use crate::files::Files;
 use std::alloc::Global;
 use std::io::{Read, Write};
 use std::process::ExitCode;
-use unftp_control_login::{Accounts, serve_members};
+use unftp_control_login::{Accounts, Gate, LoginLimit, serve_members};
 use unftp_control_serve::{Input, Output, ServeError, Served};
 
 /// How many bytes a line may have, its line feed counted.
@@ -53,50 +53,51 @@ const ACCOUNTS: &[Account] = &[
     },
 ];
 
+/// A gate before the first event, behind which who has logged in finds the tree.
+pub fn files_gate<A: Accounts>(accounts: A) -> Gate<A, Files>
+    ensures state { gated A.accepts state_of_files result ≡ first_gate (A.accepts accounts) }
+    ensures asked { result.accounts.questions ≡ [] }
+    ensures failures { failures_of failures_of_files result.inner ≡ 0 }
+{
+    let limit = LoginLimit::new(FAILED_LOGINS);
+    Gate::new(accounts, Files::new()).with_limit(limit)
+}
+
 /// Answers the lines that the reader gives, until it gives no more, QUIT is answered, or too many
 /// logins failed. Each reply is written whole and flushed before the next line is taken, and before
 /// more is read.
-pub fn run<R: Read, W: Write, A: Accounts + Drop>(
+pub fn run<R: Read, W: Write, A: Accounts>(
     alloc: Global,
     reader: &mut Input<R>,
     writer: &mut Output<W>,
-    accounts: A,
+    gate: &mut Gate<A, Files>,
 ) -> Result<Served, ServeError>
     // At Ok exactly the replies to the lines that the reads gave were written, of any reader and
-    // any writer, for some last state of the session and count of its failures.
-    ensures serves { (session : Gated Session) × (failures : ℕ) × IfOk result
-        (Serves (Some LIMIT) guarded_law
-        (first_snapshot (A.accepts accounts) (output_state_of W.contents writer.old))
-        (snapshot session failures (output_state_of W.contents writer.new))
+    // any writer, and the gate is in the state after them.
+    ensures serves { IfOk result (Serves (Some LIMIT) guarded_law
+        (gate_snapshot A.accepts state_of_files failures_of_files W.contents gate.old writer.old)
+        (gate_snapshot A.accepts state_of_files failures_of_files W.contents gate.new writer.new)
         (input_state_of R.remaining reader.old) (input_state_of R.remaining reader.new)) }
     // Whatever was read: where a client reads in what was written a reply that reports no failure,
     // among those to a command that needs a login, the accounts have accepted a name and its
     // password before it.
-    ensures members { OnOk result ((read written : Bytes)
+    ensures members { IsClosed (gated A.accepts state_of_files gate.old)
+        → OnOk result ((read written : Bytes)
         × HasRead (input_state_of R.remaining reader.old) (input_state_of R.remaining reader.new)
         read
         × HasWritten (output_state_of W.contents writer.old) (output_state_of W.contents writer.new)
         written
-        × MembersAlone (Some LIMIT) (A.accepts accounts) read written) }
+        × MembersAlone (Some LIMIT) (A.accepts gate.old.accounts.accounts) read written) }
     // At Ok the buffer has held at most the limit and one piece.
     ensures bound { IfOk result (λ served. served.held ≤ LIMIT + 4096) }
     // What is so at each error.
-    ensures err { (session : Gated Session) × (failures : ℕ) × IfErr result
-        (ServeEnded (Some LIMIT) guarded_law
-        (first_snapshot (A.accepts accounts) (output_state_of W.contents writer.old))
-        (snapshot session failures (output_state_of W.contents writer.new))
+    ensures err { IfErr result (ServeEnded (Some LIMIT) guarded_law
+        (gate_snapshot A.accepts state_of_files failures_of_files W.contents gate.old writer.old)
+        (gate_snapshot A.accepts state_of_files failures_of_files W.contents gate.new writer.new)
         (input_state_of R.remaining reader.old) (input_state_of R.remaining reader.new)) }
 {
     laws::files_replies_are_plain();
-    serve_members(
-        alloc,
-        LIMIT,
-        FAILED_LOGINS,
-        reader,
-        writer,
-        accounts,
-        Files::new(),
-    )
+    serve_members(alloc, LIMIT, reader, writer, gate)
 }
 
 fn main(rt: HostRuntime) -> ExitCode {
@@ -106,8 +107,8 @@ fn main(rt: HostRuntime) -> ExitCode {
     }
     let mut reader = Input::new(rt.stdin());
     let mut writer = Output::new(rt.stdout());
-    let accounts = Table { accounts: ACCOUNTS };
-    match run(rt.alloc(), &mut reader, &mut writer, accounts) {
+    let mut gate = files_gate(Table { accounts: ACCOUNTS });
+    match run(rt.alloc(), &mut reader, &mut writer, &mut gate) {
         Ok(_) => ExitCode::SUCCESS,
         Err(error) => {
             let _ = match &error {

@@ -1,6 +1,7 @@
 mod CallLemmas
 mod CalledLemmas
 mod GateLemmas
+mod AskedLemmas
 pub mod FinalLemmas
 pub mod StageLemmas
 pub mod StagedLemmas

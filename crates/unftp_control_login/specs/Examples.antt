@@ -7,6 +7,8 @@ use Rattle.unftp_control_defs.specs.FtpReply.{FtpReply, Nothing, CodeAndMsg}
 use Rattle.unftp_control_defs.specs.Run.{SessionLaw, as_session}
 use Rattle.unftp_control_login.specs.Login.{Accounts}
 use Rattle.unftp_control_login.specs.HandlerCalls.{Call, CallState}
+use Rattle.unftp_control_login.specs.Gate.{Gated}
+use Rattle.unftp_control_login.specs.Asked.{AskedGate}
 use Rattle.unftp_control_login.specs.declared.inner.Inner.{Inner}
 
 abbrev pub anna : Bytes
@@ -49,6 +51,10 @@ so_far calls refused failed = record { calls = calls; refused = refused; failed 
 -- the same of a handler of which only its failures are kept
 abbrev pub inner_with : List Call → ℕ → ℕ → Inner ℕ
 inner_with calls refused failed = record { handler = failed; calls = calls; refused = refused }
+
+-- a gate whose accounts were asked this
+abbrev pub gate_asked : {S : Type 0} → List Call → Gated S → AskedGate S
+gate_asked asked gate = record { gate = gate; asked = asked }
 
 -- counts the events that it receives, and is done after nine
 abbrev pub counting : SessionLaw ℕ

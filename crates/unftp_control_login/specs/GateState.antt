@@ -1,14 +1,18 @@
 -- What contracts see of a gate, and what a call leaves of it.
-use Rattle.std.specs.Prelude.{◌≡◌, ℕ, Result, IfOk, OnOk}
+use Rattle.std.specs.Prelude.{◌≡◌, ℕ, Option, Result, IfOk, OnOk}
+use Rattle.unftp_control_defs.specs.Bytes.{Bytes}
 use Rattle.unftp_control_defs.specs.Events.{FtpEvent}
 use Rattle.unftp_control_defs.specs.Run.{SessionLaw}
 use Rattle.unftp_control_message.specs.ReplyMeaning.{reply_of}
 use Rattle.unftp_control_message.specs.declared.reply.Reply.{Reply}
 use Rattle.unftp_control_message.specs.declared.reply.error.ControlChanError.{ControlChanError}
+use Rattle.unftp_control_serve.specs.Endings.{Snapshot, snapshot_of}
+use Rattle.unftp_control_serve.specs.declared.output.Output.{Output}
 use Rattle.unftp_control_login.specs.Login.{Accounts}
 use Rattle.unftp_control_login.specs.HandlerCalls.{CallsMade}
-use Rattle.unftp_control_login.specs.CallsOf.{calls_of}
+use Rattle.unftp_control_login.specs.CallsOf.{calls_of, failures_of}
 use Rattle.unftp_control_login.specs.Gate.{Decision, Gated, calls_by, decides, further_calls, gated_law, reply_by, state_by}
+use Rattle.unftp_control_login.specs.Asked.{AskedGate}
 use Rattle.unftp_control_login.specs.declared.inner.Inner.{Inner}
 use Rattle.unftp_control_login.specs.declared.gate.Gate.{Gate}
 
@@ -21,6 +25,19 @@ gated accepts state gate = record {
   passed = gate.passed;
   inner = state gate.inner.handler;
 }
+
+-- the same with what the accounts were asked
+abbrev pub asked_gate : {A H S : Type 0} → (A → Accounts) → (H → S) → Gate A H → AskedGate S
+asked_gate accepts state gate = record {
+  gate = gated accepts state gate;
+  asked = gate.accounts.questions;
+}
+
+-- the same of a gate and an output, with how often the gate has failed
+abbrev pub gate_snapshot : {A H S W : Type 0} → (A → Accounts) → (H → S) → (H → ℕ)
+    → (W → Option Bytes) → Gate A H → Output W → Snapshot (AskedGate S)
+gate_snapshot accepts state failures =
+    snapshot_of (asked_gate accepts state) (λ gate. failures_of failures gate.inner)
 
 -- At an event the calls were made that follow from the gate's decision.
 abbrev pub GateCalled : {H S T : Type 0} → (H → ℕ) → SessionLaw S → Gated S → Inner H → FtpEvent

@@ -4,6 +4,7 @@ pub mod HandlerCalls
 pub mod CallMeaning
 pub mod CallsOf
 pub mod Gate
+pub mod Asked
 pub mod GateState
 pub mod LoginLimit
 pub mod Promises

@@ -17,12 +17,13 @@ ghost use Rattle.unftp_control_serve.specs.Writing.{appended_output};
 ghost use Rattle.unftp_control_login.specs.Login.{GaveName, HasLoggedIn, IsLoggedIn, flushes_login, needs_login};
 ghost use Rattle.unftp_control_login.specs.declared.stage.Stage.TheVariants.{LoggedIn, Named, NoName};
 ghost use Rattle.unftp_control_login.specs.HandlerCalls.{AllCalled, Asks, AsksFurther, CallsMade, FailedCall, Makes, Passes, tells};
+ghost use Rattle.unftp_control_login.specs.Asked.{IsClosed, all_questions, asked_law, questions_for};
 ghost use Rattle.unftp_control_login.specs.Gate.{Answers, LogsIn, PassesOn, calls_by, closed, gated_law, logged_in, login_needed, name_needed, not_accepted, password_needed, questions};
 ghost use Rattle.unftp_control_login.specs.GateState.{GateCalled};
 ghost use Rattle.unftp_control_login.specs.LoginLimit.{EndsWith, failed_in_run, is_failure, too_many};
 ghost use Rattle.unftp_control_login.specs.Promises.{AgreeOnAll, AllLookAlike, DifferInPasswords, FailsAlike, IsRefusedLogin, IsTurnedAway, LearnsName, LooksAlike, MembersAlone, NoFailure, PasswordFits, ReachesHandler, SendsPlainExchanges, ServesMembersAlone, gate_calls, guarded};
 ghost use Rattle.unftp_control_login.specs.SessionState.{snapshot};
-ghost use Rattle.unftp_control_login.specs.Examples.{anna, anna_and_ben, answers_once, ben, counting, here, inner_with, login, only_anna, opened, pass, secret, silent, so_far, transferring, user, wrong};
+ghost use Rattle.unftp_control_login.specs.Examples.{anna, anna_and_ben, answers_once, ben, counting, gate_asked, here, inner_with, login, only_anna, opened, pass, secret, silent, so_far, transferring, user, wrong};
 
 /// Which events need a login, and which undo one.
 pub fn logins_are_needed()
@@ -243,6 +244,29 @@ pub fn a_limit_counts()
     ensures none { failed_in_run (gated_law counting) (closed only_anna 0) login ≡ 0 }
     ensures preliminary { is_failure opened ≡ false }
     ensures not_ended { EndsWith here counting 0 (Command Noop ∷ []) → ⊥ }
+{}
+
+/// What the accounts are asked in a session, and which gate is before its first event.
+#[tactic(auto, unfolding(unftp_control_defs::proofs::Computing::at_bytes))]
+pub fn questions_are_asked()
+    ensures session { (last_state (asked_law counting) (gate_asked [] (closed only_anna 0))
+        (pass wrong ∷ user anna ∷ pass wrong ∷ Command Noop ∷ user anna ∷ pass secret ∷ pass wrong
+        ∷ [])).asked ≡ Asks anna wrong ∷ Asks anna secret ∷ [] }
+    ensures before { ((asked_law counting).next
+        (gate_asked (Asks ben wrong ∷ []) (closed only_anna 0)) (Command Noop)).asked
+        ≡ Asks ben wrong ∷ [] }
+    ensures all { all_questions counting (closed only_anna 0)
+        (user anna ∷ pass wrong ∷ pass secret ∷ []) ≡ Asks anna wrong ∷ [] }
+    ensures within { questions_for (Some 13) counting (closed only_anna 0)
+        (codes "USER anna\r\nPASS secret\r\n") ≡ Asks anna secret ∷ [] }
+    ensures too_long { questions_for (Some 12) counting (closed only_anna 0)
+        (codes "USER anna\r\nPASS secret\r\n") ≡ [] }
+    ensures over { questions_for None counting (closed only_anna 0)
+        (codes "USER anna\r\nQUIT\r\nPASS secret\r\n") ≡ [] }
+    ensures closed { IsClosed {S = ℕ} (guarded (Some 1) only_anna 0) }
+    ensures named { IsClosed {S = ℕ} (record (closed only_anna 0) { stage = Named anna }) → ⊥ }
+    ensures quit { IsClosed {S = ℕ} (record (closed only_anna 0) { quit = true }) → ⊥ }
+    ensures passed { IsClosed {S = ℕ} (record (closed only_anna 0) { passed = true }) → ⊥ }
 {}
 
 /// A session as contracts see it, here one that is the count of its failures, and another one.

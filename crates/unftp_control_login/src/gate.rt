@@ -11,8 +11,9 @@ ghost use Rattle.unftp_control_message.specs.ReplyMeaning.{number_of};
 ghost use Rattle.unftp_control_login.specs.Login.{flushes_login, is_login, needs_login};
 ghost use Rattle.unftp_control_login.specs.LoginLimit.{one_fewer};
 ghost use Rattle.unftp_control_login.specs.CallsOf.{failures_of};
-ghost use Rattle.unftp_control_login.specs.Gate.{Answers, Gated, LogsIn, PassesOn, gated_law, is_barred, is_logged_in, limited, questions};
-ghost use Rattle.unftp_control_login.specs.GateState.{Decided, GateAnswers, GateAsked, GateCalled, gated};
+ghost use Rattle.unftp_control_login.specs.Asked.{AskedGate, asked_law};
+ghost use Rattle.unftp_control_login.specs.Gate.{Answers, LogsIn, PassesOn, is_barred, is_logged_in, limited, questions};
+ghost use Rattle.unftp_control_login.specs.GateState.{Decided, GateAnswers, GateAsked, GateCalled, asked_gate, gated};
 
 use crate::accounts::Accounts;
 use crate::asked::AskedAccounts;
@@ -82,6 +83,13 @@ impl<A: Accounts, H: Session> Gate<A, H> {
         ensures { result ≡ record self { limit = limit } }
     {
         Gate { limit, ..self }
+    }
+
+    /// The handler.
+    pub fn handler(&self) -> &H
+        ensures { result.now ≡ self.now.inner.handler }
+    {
+        self.inner.handler()
     }
 
     /// Answers a password by which the login fails: the last that may fail by 421.
@@ -212,17 +220,17 @@ impl<A: Accounts, H: Session> Gate<A, H> {
 }
 
 impl<A: Accounts, H: Session> Session for Gate<A, H> {
-    ghost State = { Gated H.State };
+    ghost State = { AskedGate H.State };
 
     ghost Heard = { H.Heard };
 
-    ghost state = { gated A.accepts H.state };
+    ghost state = { asked_gate A.accepts H.state };
 
     ghost heard = { λ gate. H.heard gate.inner.handler };
 
-    ghost law = { λ heard. gated_law (H.law heard) };
+    ghost law = { λ heard. asked_law (H.law heard) };
 
-    ghost left = { λ state. H.left state.inner };
+    ghost left = { λ state. H.left state.gate.inner };
 
     ghost failures = { λ gate. failures_of H.failures gate.inner };
 
@@ -237,8 +245,8 @@ impl<A: Accounts, H: Session> Session for Gate<A, H> {
     fn first(&mut self, alloc: Global, event: Event) -> Result<Reply, ControlChanError>
         ensures heard { Begins (H.heard self.new.inner.handler) (H.heard self.old.inner.handler) }
         ensures answers { (heard : List H.Heard) → Begins heard (H.heard self.new.inner.handler)
-            → FirstAnswer (gated_law (H.law heard)) (gated A.accepts H.state self.old)
-            (gated A.accepts H.state self.new) (failures_of H.failures self.old.inner)
+            → FirstAnswer (asked_law (H.law heard)) (asked_gate A.accepts H.state self.old)
+            (asked_gate A.accepts H.state self.new) (failures_of H.failures self.old.inner)
             (failures_of H.failures self.new.inner) (event_meant event) result }
         ensures asked { self.new.accounts.questions ≡ self.old.accounts.questions
             ++ questions self.old.stage (event_meant event) }
@@ -270,9 +278,9 @@ impl<A: Accounts, H: Session> Session for Gate<A, H> {
     fn further(&mut self, alloc: Global) -> Result<Option<Reply>, ControlChanError>
         ensures heard { Begins (H.heard self.new.inner.handler) (H.heard self.old.inner.handler) }
         ensures answers { (heard : List H.Heard) → Begins heard (H.heard self.new.inner.handler)
-            → FurtherAnswer (gated_law (H.law heard)) (gated A.accepts H.state self.old)
-            (gated A.accepts H.state self.new) (failures_of H.failures self.old.inner)
-            (failures_of H.failures self.new.inner) (λ state. H.left state.inner) result }
+            → FurtherAnswer (asked_law (H.law heard)) (asked_gate A.accepts H.state self.old)
+            (asked_gate A.accepts H.state self.new) (failures_of H.failures self.old.inner)
+            (failures_of H.failures self.new.inner) (λ state. H.left state.gate.inner) result }
         ensures kept { (self.new.accounts ≡ self.old.accounts)
             × (self.new.limit ≡ self.old.limit) × (self.new.stage ≡ self.old.stage)
             × (self.new.quit ≡ self.old.quit) }

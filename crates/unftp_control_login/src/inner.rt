@@ -44,6 +44,13 @@ impl<H: Session> Inner<H> {
         }
     }
 
+    /// The handler, which can receive nothing by this.
+    pub(crate) fn handler(&self) -> &H
+        ensures { result.now ≡ self.now.handler }
+    {
+        &self.handler
+    }
+
     /// Has the handler receive an event, and returns its first reply.
     pub(crate) fn pass_on(&mut self, alloc: Global, event: Event) -> Result<Reply, ControlChanError>
         ensures heard { Begins (H.heard self.new.handler) (H.heard self.old.handler) }

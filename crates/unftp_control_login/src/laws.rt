@@ -1,12 +1,14 @@
 //! What a login gate promises of all inputs, each the contract of a function that does
 //! nothing.
-ghost use Rattle.std.specs.Prelude.{◌≡◌, ◌<◌, ◌≤◌, ◌⊎◌, ℕ, true, false, List, Option, Some, IsTrue};
+ghost use Rattle.std.specs.Prelude.{◌≡◌, ◌<◌, ◌≤◌, ◌++◌, ◌⊎◌, ℕ, true, false, List, Option, Some, IsTrue};
 ghost use Rattle.unftp_control_defs.specs.Bytes.{Bytes};
 ghost use Rattle.unftp_control_defs.specs.Events.{FtpEvent, Command};
 ghost use Rattle.unftp_control_defs.specs.FtpCommand.{Quit};
-ghost use Rattle.unftp_control_defs.specs.Run.{after, replies_to, text_for};
+ghost use Rattle.unftp_control_defs.specs.Run.{after, last_state, replies_to, run_for, text_for};
 ghost use Rattle.unftp_control_login.specs.Login.{Accounts, GaveName, IsLoggedIn, is_login, needs_login};
+ghost use Rattle.unftp_control_login.specs.Asked.{asked_law, questions_for};
 ghost use Rattle.unftp_control_login.specs.Gate.{Gated, gated_law, unlimited};
+ghost use Rattle.unftp_control_login.specs.HandlerCalls.{Call};
 ghost use Rattle.unftp_control_login.specs.LoginLimit.{EndsWith, failed_in_run, is_failed_login, too_many};
 ghost use Rattle.unftp_control_login.specs.Promises.{AccountsStayHidden, CallsHidePasswords, ErrorsHidePasswords, IsTurnedAway, LearnsName, MembersAlone, PasswordsStayHidden, ReachesHandler, RefusedLoginsLookAlike, RefusedPasswordsLookAlike, SendsPlainExchanges, ServesMembersAlone, gate_calls, guarded};
 
@@ -36,6 +38,16 @@ pub fn members_reach_the_handler<H: Session>()
         (accepts : Accounts) (failures : Option ℕ) (inner : H.State) (before : List FtpEvent)
         (name password : Bytes) → GaveName name before → accepts name password ≡ true
         → LearnsName (H.law heard) (guarded failures accepts inner) before name password }
+{}
+
+/// Over an input the accounts of a gate are asked about each password that comes after a name, once
+/// and in order, and nothing else. Those before it stay.
+pub fn accounts_are_asked_once<H: Session>()
+    ensures { (heard : List H.Heard) (limit : Option ℕ) (asked : List Call)
+        (gate : Gated H.State) (input : Bytes) → (last_state (asked_law (H.law heard))
+        (record { gate = gate; asked = asked }) (run_for limit (asked_law (H.law heard))
+        (record { gate = gate; asked = asked }) input)).asked
+        ≡ asked ++ questions_for limit (H.law heard) gate input }
 {}
 
 /// Whatever handler the gate has, and whatever a client sends: to an event that needs a login, a

@@ -4,9 +4,9 @@ ghost use Rattle.unftp_control_defs.specs.Events.{Command, Refused, line_too_lon
 ghost use Rattle.unftp_control_defs.specs.FtpCommand.{Abor, Noop, Quit, Rest, TypeCode};
 ghost use Rattle.example_callers.specs.DataAnswers.{Opened, Took, Gave, Closed, OpenFailed, SendFailed, ReceiveFailed, CloseFailed, answer_to_close, answer_to_open, answer_to_receive, answer_to_send, received_in, sent_in};
 ghost use Rattle.example_callers.specs.CameTo.{CameTo, RanOut};
-ghost use Rattle.example_callers.specs.TransferLaws.{AtEvent, Retrieves, Stores, TransfersNothing, answers_for, state_after_event};
+ghost use Rattle.example_callers.specs.TransferLaws.{Completes, Retrieves, Stores, TransfersNothing, answers_for, replies_to, state_after_event};
 ghost use Rattle.example_callers.specs.Transfers.{new_transfers, closing, left_in, transfer_outcome, receiving, sending, stored, transfers_law, with_opening};
-ghost use Rattle.example_callers.specs.TransferExamples.{abc, all_received, all_data_sent, codes_to, file_after, holding, later, replies_at, retr, stor};
+ghost use Rattle.example_callers.specs.TransferExamples.{abc, all_received, all_data_sent, codes_to, file_after, holding, later, replies_at, retr, stor, stored_and_sent};
 ghost use Rattle.example_callers.specs.declared.transfers.transfer.Ending.TheVariants.{Complete, NotOpened, Aborted, NotClosed};
 ghost use Rattle.example_callers.specs.declared.transfers.transfer.Transfer.TheVariants.{Retrieve, Store};
 
@@ -42,6 +42,11 @@ pub fn calls_are_used()
     ensures opened_twice { (with_opening closing (Opened ∷ Opened ∷ [])).used ≡ 1 }
     ensures never_closed { (closing (Opened ∷ [])).used ≡ 0 }
     ensures closed_at_once { (with_opening receiving (Opened ∷ Closed ∷ [])).used ≡ 1 }
+    // a call that has no answer counts: so none can be left out
+    ensures not_answered { ((with_opening closing []).used ≡ 1) × ((sending abc []).used ≡ 1)
+        × ((receiving []).used ≡ 1) × ((closing []).used ≡ 1) }
+    ensures refused_uncalled { (codes_to [] retr ≡ 150 ∷ 425 ∷ [])
+        × ((state_after_event (later []) (holding 0 abc) retr).used ≡ 3) }
 {}
 
 /// The code of each reply.
@@ -89,6 +94,20 @@ pub fn states_follow()
         × ((transfers_law []).may_break (holding 0 abc) out_of_memory → ⊥)
         × ((transfers_law []).may_break ((transfers_law []).next (holding 0 abc) retr)
         line_too_long → ⊥) }
+{}
+
+/// What was stored comes back: it is what `files_come_back` asks for, and what it says.
+pub fn a_file_comes_back()
+    ensures at_the_start { (holding 0 abc).offset ≡ 0 }
+    ensures was_stored { Completes (replies_to (later stored_and_sent) (holding 0 abc) stor) }
+    ensures was_retrieved { Completes (replies_to (later stored_and_sent)
+        (state_after_event (later stored_and_sent) (holding 0 abc) stor) retr) }
+    ensures same { sent_in (answers_for (later stored_and_sent)
+        (state_after_event (later stored_and_sent) (holding 0 abc) stor) retr) ≡ codes "xyz" }
+    ensures not_stored { Completes (replies_to (later (Opened ∷ Gave abc ∷ ReceiveFailed ∷ []))
+        (holding 0 abc) stor) → ⊥ }
+    ensures from_an_offset { sent_in (answers_for (later stored_and_sent)
+        (state_after_event (later stored_and_sent) (holding 1 abc) stor) retr) ≡ [] }
 {}
 
 /// What the laws of transfers let a session do, and what not.

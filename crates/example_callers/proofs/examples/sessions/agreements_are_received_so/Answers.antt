@@ -63,6 +63,7 @@ returns c = record {
             within = tt;
           };
       needed = inl refl;
+      held = refl;
     },
     (to, sym (ap (λ reply. after_reply (asking 1 (Some 0) 0 false) reply.0) reply)),
     (true, refl, (λ yes. (refl, (refl, refl, refl)), λ may. refl)),

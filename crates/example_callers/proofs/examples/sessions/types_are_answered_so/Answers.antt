@@ -56,7 +56,7 @@ returns-clause-answered c = record {
       meaning = refl;
     };
     all_kept = refl;
-    none_scanned = refl;
+    few_scanned = (omega arith, omega arith);
   };
   text = codes "TYPE I";
   is_text = (

@@ -1,0 +1,137 @@
+-- A gate as a session does what the gate does, and its accounts are asked what follows from the
+-- events.
+use Rattle.std.proofs.Common.{◌≡◌, ℕ, List, [], ◌∷◌, ◌++◌, map, Option, Some, None, refl, sym, ap, ◌∙◌, subst, append_assoc}
+use Rattle.std.specs.Prelude.{if◌then◌else◌, flat_map, Result, Ok, Err}
+use Rattle.std.proofs.lemmas.List.{append-nil}
+use Rattle.unftp_control_defs.specs.Bytes.{Bytes}
+use Rattle.unftp_control_defs.specs.FtpCommand.{User}
+use Rattle.unftp_control_defs.specs.Events.{FtpEvent, Command, events}
+use Rattle.unftp_control_defs.specs.FtpReply.{FtpReply, encoded}
+use Rattle.unftp_control_defs.specs.Run.{Follows, SessionLaw, after, all_replies, last_state, replies_by_event, replies_to, run_for, run_of, text_for, turn}
+use Rattle.unftp_control_message.specs.declared.reply.Reply.{Reply}
+use Rattle.unftp_control_message.specs.declared.reply.error.ControlChanError.{ControlChanError}
+use Rattle.unftp_control_serve.specs.Answering.{FirstAnswer}
+use Rattle.unftp_control_login.specs.declared.stage.Stage.{Stage}
+use Rattle.unftp_control_login.specs.declared.stage.Stage.TheVariants.{NoName, Named, LoggedIn}
+use Rattle.unftp_control_login.specs.HandlerCalls.{Call}
+use Rattle.unftp_control_login.specs.Gate.{Gated, gated_law, questions}
+use Rattle.unftp_control_login.specs.Asked.{AskedGate, IsClosed, all_questions, asked_law}
+use Rattle.unftp_control_login.specs.Promises.{guarded}
+use Rattle.unftp_control_login.proofs.StageLemmas.{after-lifted, turn_replies-lifted}
+
+-- At USER the accounts are asked nothing.
+pub user-asks-nothing : (asked : List Call) (stage : Stage) (name : Bytes)
+    → asked ≡ asked ++ questions stage (Command (User name))
+user-asks-nothing asked (Named given) name = sym (append-nil asked)
+user-asks-nothing asked NoName name = sym (append-nil asked)
+user-asks-nothing asked LoggedIn name = sym (append-nil asked)
+
+module _ {S : Type 0} (law : SessionLaw S) where
+  abbrev gate : SessionLaw (Gated S)
+  gate = gated_law law
+
+  abbrev both : SessionLaw (AskedGate S)
+  both = asked_law law
+
+  abbrev having : List Call → Gated S → AskedGate S
+  having asked s = record { gate = s; asked = asked }
+
+  -- one call
+  pub asked-first : {s s' : Gated S} {asked asked' : List Call} {failures failures' : ℕ}
+      {event : FtpEvent} (result : Result Reply ControlChanError)
+      → FirstAnswer gate s s' failures failures' event result
+      → asked' ≡ asked ++ questions s.stage event
+      → FirstAnswer both (having asked s) (having asked' s') failures failures' event result
+  asked-first (Ok reply) answer is = record {
+    says = answer.says;
+    next = λ i. having (is i) (answer.next i);
+    quiet = answer.quiet;
+    may_fail = tt;
+    counted = tt;
+  }
+  asked-first (Err error) answer is = record {
+    says = tt;
+    next = tt;
+    quiet = tt;
+    may_fail = answer.may_fail;
+    counted = answer.counted;
+  }
+
+  pub asked-follows : (s s' : Gated S) {asked asked' : List Call} (more : Option FtpReply)
+      → asked' ≡ asked → Follows gate s more s'
+      → Follows both (having asked s) more (having asked' s')
+  asked-follows s s' {asked} None is follows = (
+    ap (map (λ step. (step.0, having asked step.1))) follows.0,
+    λ i. having (is i) (follows.1 i),
+  )
+  asked-follows s s' {asked} (Some reply) is follows = subst
+      (λ asked'. Follows both (having asked s) (Some reply) (having asked' s')) (sym is)
+      (ap (map (λ step. (step.0, having asked step.1))) follows)
+
+  -- an event
+  module _ (asked : List Call) (s : Gated S) (event : FtpEvent) where
+    abbrev then_asked : List Call
+    then_asked = asked ++ questions s.stage event
+
+    asked-after : after both (having asked s) event ≡ having then_asked (after gate s event)
+    asked-after = after-lifted (having then_asked) s (turn gate s event)
+
+    asked-replies : replies_to both (having asked s) event ≡ replies_to gate s event
+    asked-replies = turn_replies-lifted (having then_asked) (turn gate s event)
+
+  -- and several
+  asked-run : (asked : List Call) (s : Gated S) (events : List FtpEvent)
+      → run_of both (having asked s) events ≡ run_of gate s events
+  asked-run asked s [] = refl
+  asked-run asked s (event ∷ events) =
+      let n = after gate s event in
+      ap (λ t. event ∷ (if both.done t then [] else run_of both t events))
+      (asked-after asked s event)
+      ∙ ap (λ run. event ∷ (if gate.done n then [] else run))
+      (asked-run (then_asked asked s event) n events)
+
+  asked-by-event : (asked : List Call) (s : Gated S) (events : List FtpEvent)
+      → replies_by_event both (having asked s) events ≡ replies_by_event gate s events
+  asked-by-event asked s [] = refl
+  asked-by-event asked s (event ∷ events) =
+      ap (λ replies. replies ∷ replies_by_event both (after both (having asked s) event) events)
+      (asked-replies asked s event)
+      ∙ ap (λ t. replies_to gate s event ∷ replies_by_event both t events)
+      (asked-after asked s event)
+      ∙ ap (λ later. replies_to gate s event ∷ later)
+      (asked-by-event (then_asked asked s event) (after gate s event) events)
+
+  asked-last : (asked : List Call) (s : Gated S) (events : List FtpEvent)
+      → last_state both (having asked s) events
+      ≡ having (asked ++ all_questions law s events) (last_state gate s events)
+  asked-last asked s [] = ap (λ asked. having asked s) (sym (append-nil asked))
+  asked-last asked s (event ∷ events) =
+      let n = after gate s event in
+      ap (λ t. last_state both t events) (asked-after asked s event)
+      ∙ asked-last (then_asked asked s event) n events
+      ∙ ap (λ asked. having asked (last_state gate n events))
+      (append_assoc asked (questions s.stage event) (all_questions law n events))
+
+  -- over an input
+  module _ (limit : Option ℕ) (asked : List Call) (s : Gated S) (input : Bytes) where
+    pub asked-text : text_for limit both (having asked s) input ≡ text_for limit gate s input
+    asked-text = ap (λ turns. flat_map encoded (all_replies turns))
+        (ap (replies_by_event both (having asked s)) (asked-run asked s (events limit input))
+        ∙ asked-by-event asked s (run_for limit gate s input))
+
+    pub asked-all : (last_state both (having asked s) (run_for limit both (having asked s) input)).asked
+        ≡ asked ++ all_questions law s (run_for limit gate s input)
+    asked-all = ap (λ (t : AskedGate S). t.asked)
+        (ap (last_state both (having asked s)) (asked-run asked s (events limit input))
+        ∙ asked-last asked s (run_for limit gate s input))
+
+-- A gate before the first event is one that was made so.
+pub closed-is : {S : Type 0} (s : Gated S) → IsClosed s → s ≡ guarded s.left s.accepts s.inner
+closed-is s closed = λ i. record {
+  accepts = s.accepts;
+  left = s.left;
+  stage = closed.stage i;
+  quit = closed.quit i;
+  passed = closed.passed i;
+  inner = s.inner;
+}
