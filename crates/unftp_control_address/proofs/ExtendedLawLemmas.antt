@@ -71,7 +71,7 @@ of_ipv4 b h = search (rules, tests, arith)
 of_ipv6 : (b : ℕ) → IsHexOrColon b → IsNotBar b
 of_ipv6 b h = search (rules, tests, arith)
 
-octets_fit : (a b k : ℕ) → a < 2 ^ 16 → b < 2 ^ 16 → get_or (octets_of (a ∷ b ∷ [])) k 0 < 2 ^ 8
+pub octets_fit : (a b k : ℕ) → a < 2 ^ 16 → b < 2 ^ 16 → get_or (octets_of (a ∷ b ∷ [])) k 0 < 2 ^ 8
 octets_fit a b zero ha hb = omega (arith, ha)
 octets_fit a b (suc zero) ha hb = omega (arith, ha)
 octets_fit a b (suc (suc zero)) ha hb = omega (arith, hb)

@@ -4,3 +4,4 @@ pub mod TextLemmas
 pub mod FindLemmas
 pub mod ExtendedLemmas
 pub mod ExtendedLawLemmas
+pub mod RoomLemmas

@@ -1,5 +1,5 @@
 -- What is written is read back.
-use Rattle.std.proofs.Common.{◌≡◌, ◌<◌, ◌≤◌, ◌/◌, ◌%◌, ◌==◌, ℕ, false, length, get_or, List, [], ◌∷◌, Some, decimal, refl, ◌∙◌, ap, arith, lit<, lit≤, eq-eqb}
+use Rattle.std.proofs.Common.{◌++◌, ◌+◌, codes, flat_map, append-nil, append_assoc, length-append, suc, sym, take, zero, ◌≡◌, ◌<◌, ◌≤◌, ◌/◌, ◌%◌, ◌==◌, ℕ, false, length, get_or, drop, List, [], ◌∷◌, Some, decimal, refl, ◌∙◌, ap, arith, lit<, lit≤, eq-eqb}
 use Rattle.std.proofs.lemmas.Bool.{lt-ltb}
 use Rattle.std.specs.Char.{is_ascii_digit}
 use Rattle.std.specs.List.{All, AllByRecursion}
@@ -8,6 +8,9 @@ use Rattle.std.proofs.lemmas.Str.Parse.{digit_at}
 use Rattle.std.proofs.lemmas.List.Elements.{All-append, All-cons, All-from_get_or}
 use Rattle.std.proofs.lemmas.Fmt.{decimal_nonempty, digits_decimal, digits_value-decimal, length-decimal-le}
 use Rattle.std.proofs.lemmas.List.Splits.{slice_split_at}
+use Rattle.std.specs.Net.Text.{ipv4_text}
+use Rattle.unftp_control_defs.specs.Bytes.{Bytes}
+use Rattle.unftp_control_address.specs.Extended.{DOT}
 use Rattle.unftp_control_address.specs.Numbers.{number_below, octet, octets, octets_between, onto}
 use Rattle.unftp_control_address.specs.HostPorts.{COMMA, host_port, host_port_text, joined_numbers}
 use Rattle.unftp_control_address.proofs.NumberLemmas.{AreDigits, own, is_number_of}
@@ -76,3 +79,44 @@ read_back_of (a ∷ []) port four small fits = absurd (omega (arith, four))
 read_back_of (a ∷ b ∷ []) port four small fits = absurd (omega (arith, four))
 read_back_of (a ∷ b ∷ c ∷ []) port four small fits = absurd (omega (arith, four))
 read_back_of (a ∷ b ∷ c ∷ d ∷ e ∷ host) port four small fits = absurd (omega (arith, four))
+
+-- numbers with a separator between them: the first, and the separator and a number for each other
+joined : (separator n : ℕ) (ns : List ℕ) → joined_numbers separator (n ∷ ns)
+    ≡ decimal n ++ flat_map (λ m. separator ∷ decimal m) ns
+joined separator n [] = sym (append-nil (decimal n))
+joined separator n (m ∷ ns) = ap (λ text. decimal n ++ separator ∷ text) (joined separator m ns)
+
+pub joined_whole : (separator : ℕ) (ns : List ℕ) → 1 ≤ length ns → joined_numbers separator ns
+    ≡ decimal (get_or ns 0 0) ++ flat_map (λ m. separator ∷ decimal m) (drop 1 ns)
+joined_whole separator [] some = absurd (omega (arith, some))
+joined_whole separator (n ∷ ns) some = joined separator n ns
+
+pub dotted : (a b c d : Bytes) → a ++ codes "." ++ b ++ codes "." ++ c ++ codes "." ++ d
+    ≡ a ++ DOT ∷ (b ++ DOT ∷ (c ++ DOT ∷ d))
+dotted a b c d =
+    append_assoc (a ++ codes "." ++ b ++ codes "." ++ c) (codes ".") d
+    ∙ append_assoc (a ++ codes "." ++ b ++ codes ".") c (DOT ∷ d)
+    ∙ append_assoc (a ++ codes "." ++ b) (codes ".") (c ++ DOT ∷ d)
+    ∙ append_assoc (a ++ codes ".") b (DOT ∷ (c ++ DOT ∷ d))
+    ∙ append_assoc a (codes ".") (b ++ DOT ∷ (c ++ DOT ∷ d))
+
+-- the text of an IPv4 address
+pub ipv4_joined : (host : List ℕ) → length host ≡ 4 → ipv4_text host ≡ joined_numbers DOT host
+ipv4_joined (a ∷ b ∷ c ∷ d ∷ []) four = dotted (decimal a) (decimal b) (decimal c) (decimal d)
+ipv4_joined [] four = absurd (omega (arith, four))
+ipv4_joined (a ∷ []) four = absurd (omega (arith, four))
+ipv4_joined (a ∷ b ∷ []) four = absurd (omega (arith, four))
+ipv4_joined (a ∷ b ∷ c ∷ []) four = absurd (omega (arith, four))
+ipv4_joined (a ∷ b ∷ c ∷ d ∷ e ∷ host) four = absurd (omega (arith, four))
+
+-- the texts up to one, and that one, are at most all
+pub so_far : (f : ℕ → Bytes) (ns : List ℕ) (i d : ℕ) → i < length ns
+    → length (flat_map f (take i ns)) + length (f (get_or ns i d)) ≤ length (flat_map f ns)
+so_far f [] i d small = absurd (omega (arith, small))
+so_far f (n ∷ ns) zero d small = omega (arith, length-append (f n) (flat_map f ns))
+so_far f (n ∷ ns) (suc i) d small = omega (
+  arith,
+  length-append (f n) (flat_map f ns),
+  length-append (f n) (flat_map f (take i ns)),
+  so_far f ns i d (omega (arith, small)),
+)

@@ -3,7 +3,7 @@
 
 ghost use Rattle.std.specs.Prelude.{◌≡◌, [], ◌∷◌, None, Some, codes, false, true};
 ghost use Rattle.std.specs.declared.net.socket_addr.SocketAddr.{SocketAddr as RustAddress};
-ghost use Rattle.unftp_control_address.specs.Extended.{HasOtherProtocol, IsExtended, IsRefused, extended_port, extended_port_text, fields, is_delimiter};
+ghost use Rattle.unftp_control_address.specs.Extended.{HasOtherProtocol, IsExtended, IsRefused, IsRefusedHost, extended_port, extended_port_text, fields, is_delimiter};
 ghost use Rattle.unftp_control_address.specs.HostPorts.{first_host_port, host_port, host_port_text};
 ghost use Rattle.unftp_control_address.specs.Numbers.{octet, short};
 ghost use Rattle.unftp_control_address.specs.declared.extended.AddressError.TheVariants as AddressError;
@@ -65,6 +65,8 @@ pub fn values_are_refused()
     ensures no_number { IsRefused (codes "|x|10.0.0.1|80|") AddressError.Malformed }
     ensures port_too_great { IsRefused (codes "|1|10.0.0.1|65536|") AddressError.Malformed }
     ensures not_ended { (address : RustAddress) → ¬ IsExtended (codes "|1|10.0.0.1|80") address }
+    ensures other_host { IsRefusedHost 3 (codes "::1") AddressError.UnknownProtocol }
+    ensures known_host { ¬ IsRefusedHost 2 (codes "::1") AddressError.UnknownProtocol }
 {}
 
 /// Delimiters.

@@ -1,9 +1,12 @@
 //! The address of EPRT, and the port of the reply 229 (RFC 2428).
-ghost use Rattle.std.specs.Prelude.{◌≡◌, ◌++◌, None, Some, MatchOption, MatchResult, OnErr, OnOk};
+ghost use Rattle.std.specs.Prelude.{◌≡◌, ◌≤◌, [], ◌∷◌, ◌++◌, decimal, vec_capacity, None, Some, MatchOption, MatchResult, OnErr, OnOk, take, vec_len};
 ghost use Rattle.std.specs.Net.Grammar.{IsIpText};
-ghost use Rattle.unftp_control_address.specs.Extended.{IsExtended, IsRefused, IsRefusedHost, bracketed_port, ended_port, extended_port, extended_port_text, extended_text, family, fields, is_delimiter};
+ghost use Rattle.std.specs.Net.Text.{ip_text};
+ghost use Rattle.unftp_control_defs.specs.Room.{LacksRoom};
+ghost use Rattle.unftp_control_address.specs.Extended.{BAR, IsExtended, IsRefused, IsRefusedHost, bracketed_port, ended_port, extended_port, extended_port_text, extended_text, family, fields, is_delimiter};
 
 use crate::number::{cut, short};
+use crate::text::{append_host, append_next, append_number, or_undone};
 use std::alloc::AllocError;
 use std::net::{IpAddr, Ipv4Addr, Ipv6Addr, SocketAddr};
 use thiserror::Error;
@@ -99,18 +102,50 @@ fn family(ip: IpAddr) -> u8
 }
 
 /// Appends an address as a value of EPRT has it, such as `|1|132.235.1.2|6275|` (RFC 2428, section
-/// 2), without the flow information and the scope of an IPv6 address. When out of memory, `buf` is as
+/// 2), without the flow information and the scope of an IPv6 address. It takes no memory but what
+/// `buf` needs, and fails only where `buf` has no room for the text and can't grow. `buf` is then as
 /// it was.
 pub fn write_extended(address: SocketAddr, buf: &mut Vec<u8>) -> Result<(), AllocError>
     ensures ok { OnOk result (buf.new.items ≡ buf.old.items ++ extended_text address) }
     ensures err { OnErr result (buf.new.items ≡ buf.old.items) }
+    ensures memory { OnErr result (LacksRoom buf.old (extended_text address)) }
+{
+    let length = buf.len();
+    or_undone(append_extended(address, buf), length, buf)
+}
+
+/// Appends the value of EPRT for an address, or perhaps a part of it when out of memory.
+fn append_extended(address: SocketAddr, buf: &mut Vec<u8>) -> Result<(), AllocError>
+    ensures ok { OnOk result (buf.new.items ≡ buf.old.items ++ extended_text address) }
+    ensures kept { take (vec_len buf.old) buf.new.items ≡ buf.old.items }
+    ensures memory { OnErr result (LacksRoom buf.old (extended_text address)) }
 {
     let ip = address.ip();
-    let port = address.port();
-    let protocol = family(ip);
-    let mut text = String::new(*buf.allocator());
-    write!(text, "|{protocol}|{ip}|{port}|")?;
-    buf.extend_from_slice(text.as_bytes())
+    append_next(b'|', family(ip), buf)?;
+    append_next_host(ip, buf)?;
+    append_last(address.port(), buf)
+}
+
+/// Appends a delimiter and the host.
+fn append_next_host(ip: IpAddr, buf: &mut Vec<u8>) -> Result<(), AllocError>
+    ensures ok { OnOk result (buf.new.items ≡ buf.old.items ++ BAR ∷ ip_text ip) }
+    ensures kept { take (vec_len buf.old) buf.new.items ≡ buf.old.items }
+    ensures memory { OnErr result (LacksRoom buf.old (BAR ∷ ip_text ip)) }
+    ensures capacity { vec_capacity buf.old ≤ vec_capacity buf.new }
+{
+    buf.push(b'|')?;
+    append_host(ip, buf)
+}
+
+/// Appends the port between two delimiters.
+fn append_last(port: u16, buf: &mut Vec<u8>) -> Result<(), AllocError>
+    ensures ok { OnOk result (buf.new.items ≡ buf.old.items ++ BAR ∷ (decimal port ++ BAR ∷ [])) }
+    ensures kept { take (vec_len buf.old) buf.new.items ≡ buf.old.items }
+    ensures memory { OnErr result (LacksRoom buf.old (BAR ∷ (decimal port ++ BAR ∷ []))) }
+{
+    buf.push(b'|')?;
+    append_number(port, buf)?;
+    Ok(buf.push(b'|')?)
 }
 
 /// The port in the text of a reply 229 (RFC 2428, section 3), or `None` where there is none: after
@@ -148,12 +183,24 @@ fn ended_port(text: &[u8], delimiter: u8) -> Option<u16>
 }
 
 /// Appends a port as the text of a reply 229 has it, in brackets: `(|||6446|)` (RFC 2428, section
-/// 3). When out of memory, `buf` is as it was.
+/// 3). It takes no memory but what `buf` needs, and fails only where `buf` has no room for the text
+/// and can't grow. `buf` is then as it was.
 pub fn write_extended_port(port: u16, buf: &mut Vec<u8>) -> Result<(), AllocError>
     ensures ok { OnOk result (buf.new.items ≡ buf.old.items ++ extended_port_text port) }
     ensures err { OnErr result (buf.new.items ≡ buf.old.items) }
+    ensures memory { OnErr result (LacksRoom buf.old (extended_port_text port)) }
 {
-    let mut text = String::new(*buf.allocator());
-    write!(text, "(|||{port}|)")?;
-    buf.extend_from_slice(text.as_bytes())
+    let length = buf.len();
+    or_undone(append_extended_port(port, buf), length, buf)
+}
+
+/// Appends a port in brackets, or perhaps a part of it when out of memory.
+fn append_extended_port(port: u16, buf: &mut Vec<u8>) -> Result<(), AllocError>
+    ensures ok { OnOk result (buf.new.items ≡ buf.old.items ++ extended_port_text port) }
+    ensures kept { take (vec_len buf.old) buf.new.items ≡ buf.old.items }
+    ensures memory { OnErr result (LacksRoom buf.old (extended_port_text port)) }
+{
+    buf.extend_from_slice(b"(|||")?;
+    append_number(port, buf)?;
+    buf.extend_from_slice(b"|)")
 }

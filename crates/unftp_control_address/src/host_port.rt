@@ -1,9 +1,11 @@
 //! The address of PORT and of the reply 227 (RFC 959, section 4.1.2).
-ghost use Rattle.std.specs.Prelude.{◌≡◌, ◌++◌, OnErr, OnOk, option_map};
+ghost use Rattle.std.specs.Prelude.{◌≡◌, ◌++◌, OnErr, OnOk, option_map, take, vec_len};
 ghost use Rattle.std.specs.List.{position_or_len};
+ghost use Rattle.unftp_control_defs.specs.Room.{LacksRoom};
 ghost use Rattle.unftp_control_address.specs.HostPorts.{first_host_port, host_port, host_port_of, host_port_text, is_outside};
 
 use crate::number::octets;
+use crate::text::{append_joined, or_undone};
 use std::alloc::AllocError;
 use std::net::{Ipv4Addr, SocketAddrV4};
 
@@ -56,16 +58,26 @@ fn is_outside(byte: u8) -> bool
 }
 
 /// Appends an address as a value of PORT has it, and the brackets of a reply 227: `127,0,0,1,195,80`
-/// (RFC 959, section 4.1.2). When out of memory, `buf` is as it was.
+/// (RFC 959, section 4.1.2). It takes no memory but what `buf` needs, and fails only where `buf` has
+/// no room for the text and can't grow. `buf` is then as it was.
 pub fn write_host_port(address: SocketAddrV4, buf: &mut Vec<u8>) -> Result<(), AllocError>
     ensures ok { OnOk result
         (buf.new.items ≡ buf.old.items ++ host_port_text (host_port_of address)) }
     ensures err { OnErr result (buf.new.items ≡ buf.old.items) }
+    ensures memory { OnErr result (LacksRoom buf.old (host_port_text (host_port_of address))) }
+{
+    let length = buf.len();
+    or_undone(append_host_port(address, buf), length, buf)
+}
+
+/// Appends the six numbers of an address, or perhaps a part of them when out of memory.
+fn append_host_port(address: SocketAddrV4, buf: &mut Vec<u8>) -> Result<(), AllocError>
+    ensures ok { OnOk result
+        (buf.new.items ≡ buf.old.items ++ host_port_text (host_port_of address)) }
+    ensures kept { take (vec_len buf.old) buf.new.items ≡ buf.old.items }
+    ensures memory { OnErr result (LacksRoom buf.old (host_port_text (host_port_of address))) }
 {
     let [a, b, c, d] = address.ip().octets();
-    let high = address.port() / 256;
-    let low = address.port() % 256;
-    let mut text = String::new(*buf.allocator());
-    write!(text, "{a},{b},{c},{d},{high},{low}")?;
-    buf.extend_from_slice(text.as_bytes())
+    let [high, low] = address.port().to_be_bytes();
+    append_joined(b',', &[a, b, c, d, high, low], buf)
 }

@@ -1,5 +1,5 @@
 //! What follows from how addresses are read and written.
-ghost use Rattle.std.specs.Prelude.{◌≡◌, ◌==◌, ◌++◌, Some, not, true};
+ghost use Rattle.std.specs.Prelude.{◌≡◌, ◌≤◌, ◌==◌, ◌++◌, Some, length, not, true};
 ghost use Rattle.std.specs.List.{list_all};
 ghost use Rattle.std.specs.Net.Socket.{IsPlainSocket, IsSocketAddr, socket_port};
 ghost use Rattle.std.specs.declared.net.socket_addr.SocketAddr.{SocketAddr as RustAddress};
@@ -36,4 +36,13 @@ pub fn one_extended_address()
 pub fn extended_ports_are_found(port: u16)
     ensures { (before after : Bytes) → list_all (λ b. not (b == LEFT)) before ≡ true
         → extended_port (before ++ (extended_port_text port ++ after)) ≡ Some port }
+{}
+
+/// The text of an address has at most 23 bytes for PORT and a 227, and 49 for EPRT; that of a port
+/// for a 229 has at most 11.
+pub fn addresses_are_short(address: SocketAddrV4, port: u16)
+    ensures host_port { length (host_port_text (host_port_of address)) ≤ 23 }
+    ensures extended { (address : RustAddress) → IsSocketAddr address
+        → length (extended_text address) ≤ 49 }
+    ensures extended_port { length (extended_port_text port) ≤ 11 }
 {}

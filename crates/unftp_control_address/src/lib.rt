@@ -7,6 +7,7 @@ mod extended;
 mod host_port;
 pub mod laws;
 mod number;
+mod text;
 
 pub use crate::extended::{
     AddressError, find_extended_port, read_extended, write_extended, write_extended_port,

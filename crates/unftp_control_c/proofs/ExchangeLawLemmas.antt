@@ -9,7 +9,7 @@ use Rattle.unftp_control_c.specs.declared.status.Status.TheVariants.{InvalidArgu
 use Rattle.unftp_control_c.specs.Areas.{Made}
 use Rattle.unftp_control_c.specs.ExchangeLines.{ArePrintable, EndsIn, IsCutOff, IsExchangeLine, shown_exchange}
 
-malformed_front : (bytes : Bytes) → IsMalformed bytes → ¬ HasFront bytes
+pub malformed_front : (bytes : Bytes) → IsMalformed bytes → ¬ HasFront bytes
 malformed_front bytes malformed front =
     malformed.opens_none (malformed.rest, subst HasFront malformed.cut front)
 
@@ -97,3 +97,9 @@ module _ (shown bytes : Bytes) where
       → text ≡ other
   one_line text other is other_is memory other_memory =
       same_reading text other (reading text is memory) (reading other other_is other_memory)
+
+-- where memory ran out, there is a line
+pub line_is_there : (shown bytes : Bytes) → IsExchangeLine shown bytes (Err OutOfMemory)
+    → (text : Bytes) × IsExchangeLine shown bytes (Ok text)
+line_is_there shown bytes (printable, (replies, are)) =
+    (shown_exchange shown replies, (printable, replies, are, refl))

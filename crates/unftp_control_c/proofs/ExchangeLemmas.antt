@@ -5,7 +5,7 @@ use Rattle.unftp_control_defs.specs.TakingSteps.{AreReplies, TakesReply}
 use Rattle.unftp_control_log.specs.Exchanges.{Read}
 use Rattle.unftp_control_c.specs.declared.status.Status.{Status}
 use Rattle.unftp_control_c.specs.declared.status.Status.TheVariants.{Malformed, More, OutOfMemory}
-use Rattle.unftp_control_c.specs.ExchangeLines.{IsNotRead}
+use Rattle.unftp_control_c.specs.ExchangeLines.{IsLeftUnread, IsNotRead}
 
 -- some replies, and then others
 pub AreReplies-append : (first later : List Read) (before middle after : Bytes)
@@ -31,5 +31,14 @@ not_read_after bytes rest replies More are (later, end, more, holds) =
     (replies ++ later, end, AreReplies-append replies later bytes rest end are more, holds)
 not_read_after bytes rest replies Malformed are (later, end, more, holds) =
     (replies ++ later, end, AreReplies-append replies later bytes rest end are more, holds)
-not_read_after bytes rest replies OutOfMemory are why = tt
+not_read_after bytes rest replies OutOfMemory are (later, more) =
+    (replies ++ later, AreReplies-append replies later bytes rest [] are more)
 not_read_after bytes rest replies _ are why = absurd why
+
+pub left_unread_after : (bytes rest : Bytes) (replies : List Read) (status : Status)
+    → AreReplies bytes replies rest → IsLeftUnread rest status → IsLeftUnread bytes status
+left_unread_after bytes rest replies OutOfMemory are why = tt
+left_unread_after bytes rest replies More are why = not_read_after bytes rest replies More are why
+left_unread_after bytes rest replies Malformed are why =
+    not_read_after bytes rest replies Malformed are why
+left_unread_after bytes rest replies _ are why = absurd why

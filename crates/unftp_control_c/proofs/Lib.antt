@@ -1,4 +1,5 @@
 pub mod AreaLemmas
+pub mod AddressRoomLemmas
 pub mod CallLemmas
 pub mod CanonicalLineLemmas
 pub mod ExchangeLawLemmas

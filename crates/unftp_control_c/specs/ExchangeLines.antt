@@ -29,12 +29,17 @@ EndsIn Holds bytes = (replies : List Read) × (rest : Bytes) × AreReplies bytes
 abbrev pub IsCutOff : Bytes → Type 0
 IsCutOff bytes = (bytes ≢ []) × IsPartial bytes
 
--- why bytes are not read as replies; or there was no memory
+-- why bytes are not read as replies; or they are some replies, and there was no memory
 abbrev pub IsNotRead : Bytes → Status → Type 0
 IsNotRead bytes More = EndsIn IsCutOff bytes
 IsNotRead bytes Malformed = EndsIn IsMalformed bytes
-IsNotRead bytes OutOfMemory = ⊤
+IsNotRead bytes OutOfMemory = (replies : List Read) × AreReplies bytes replies []
 IsNotRead bytes _ = ⊥
+
+-- The same; but where memory ran out on the way, the bytes after that may be any.
+abbrev pub IsLeftUnread : Bytes → Status → Type 0
+IsLeftUnread bytes OutOfMemory = ⊤
+IsLeftUnread bytes status = IsNotRead bytes status
 
 -- the line, or why there is none
 abbrev pub IsExchangeLine : Bytes → Bytes → Made → Type 0

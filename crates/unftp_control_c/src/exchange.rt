@@ -7,13 +7,15 @@ ghost use Rattle.unftp_control_read.specs.ReplyDecoding.{content};
 ghost use Rattle.unftp_control_log.specs.Exchanges.{Read};
 ghost use Rattle.unftp_control_log.specs.ToCome.{held_text};
 ghost use Rattle.unftp_control_c.specs.Areas.{Made, made, written};
-ghost use Rattle.unftp_control_c.specs.ExchangeLines.{ArePrintable, IsExchangeLine, IsNotRead, shown_exchange};
+ghost use Rattle.unftp_control_c.specs.ExchangeLines.{ArePrintable, IsExchangeLine, IsLeftUnread, IsNotRead, shown_exchange};
 
 use crate::areas::write;
 use crate::status::Status;
 use std::alloc::{AllocError, Global};
 use unftp_control_log::{Exchange, write_exchange};
-use unftp_control_read::{Front, ReadReplyError, ReceivedReply, read_reply};
+use unftp_control_read::{
+    FoundReply, Front, ReadReplyError, ReceivedReply, find_reply, read_reply,
+};
 
 /// The line of a log for an exchange: `unftp_log_exchange` of include/unftp_control.h.
 #[unsafe(no_mangle)]
@@ -40,6 +42,7 @@ fn exchange_line(alloc: Global, shown: &[u8], bytes: &[u8]) -> Result<Vec<u8>, S
     }
     let replies = match all_replies(alloc, bytes) {
         Ok(replies) => replies,
+        Err(Status::OutOfMemory) => return Err(fault_of(bytes)),
         Err(status) => return Err(status),
     };
     match shown_exchange(alloc, shown, replies) {
@@ -62,10 +65,26 @@ fn is_printable(byte: u8) -> bool
     matches!(byte, b' '..=b'~')
 }
 
+/// Why there is no line where memory ran out before all replies were read: that of a reply at fault,
+/// if there is one. No memory is taken.
+fn fault_of(bytes: &[u8]) -> Status
+    ensures { IsNotRead bytes.now result }
+{
+    let mut rest = bytes;
+    while !rest.is_empty() {
+        rest = match find_reply(rest) {
+            FoundReply::Whole { used, .. } => rest.split_at(used).1,
+            FoundReply::Partial => return Status::More,
+            FoundReply::Malformed => return Status::Malformed,
+        };
+    }
+    Status::OutOfMemory
+}
+
 /// The replies that the bytes are, one after the other, or why they are not.
 fn all_replies(alloc: Global, bytes: &[u8]) -> Result<Vec<ReceivedReply>, Status>
     ensures ok { IfOk result (λ replies. AreReplies bytes.now (map content replies.items) []) }
-    ensures err { IfErr result (IsNotRead bytes.now) }
+    ensures err { IfErr result (IsLeftUnread bytes.now) }
 {
     let mut replies = Vec::new(alloc);
     let mut rest = bytes;
@@ -85,7 +104,7 @@ fn take_reply<'a>(
     ensures ok { IfOk result (λ rest. (reply : Read) × TakesReply bytes.now reply rest.now
         × (map content replies.new.items ≡ map content replies.old.items ++ reply ∷ [])) }
     ensures fewer { IfOk result (λ rest. length rest.now < length bytes.now) }
-    ensures err { IfErr result (IsNotRead bytes.now) }
+    ensures err { IfErr result (IsLeftUnread bytes.now) }
 {
     match read_reply(alloc, bytes) {
         Ok(Front::Whole { code, lines, used }) => {

@@ -1,6 +1,6 @@
 //! What the calls promise one after the other, and what is given says: each the contract of a
 //! function that does nothing.
-ghost use Rattle.std.specs.Prelude.{◌≡◌, ◌≢◌, ◌<◌, ◌≤◌, ◌+◌, ◌*◌, ◌++◌, ◌⊎◌, ℕ, List, [], ◌∷◌, Ok, Err, Option, None, Some, true, false, IsTrue, map, length};
+ghost use Rattle.std.specs.Prelude.{◌≡◌, ◌≢◌, ◌<◌, ◌≤◌, ◌+◌, ◌*◌, ◌++◌, ◌⊎◌, ℕ, List, [], ◌∷◌, Ok, Err, Option, None, Some, true, false, IsTrue, map, length, slice_index};
 ghost use Rattle.std.specs.List.{AllByRecursion, count_by};
 ghost use Rattle.unftp_control_defs.specs.Bytes.{Bytes, LF, Lacks};
 ghost use Rattle.unftp_control_defs.specs.Canonical.{HasLine};
@@ -19,6 +19,7 @@ ghost use Rattle.unftp_control_log.specs.Known.{known};
 ghost use Rattle.unftp_control_log.specs.LogLine.{IsPrintable, logged};
 ghost use Rattle.unftp_control_login.specs.Gate.{decided, stage_after};
 ghost use Rattle.unftp_control_login.specs.Login.{Accounts, IsLoggedIn, is_login, needs_login};
+ghost use Rattle.unftp_control_c.specs.Addresses.{IsWrittenBy, form_for};
 ghost use Rattle.unftp_control_c.specs.Areas.{Made, filled, written};
 ghost use Rattle.unftp_control_c.specs.Clients.{dialogue_of, may_begin_tls, new_client, place_in, to_number};
 ghost use Rattle.unftp_control_c.specs.ExchangeLines.{IsExchangeLine};
@@ -136,6 +137,10 @@ pub fn rooms_are_bounded()
     ensures parameter { (line out : Bytes)
         → ((written (parameter_bytes line) out).text_length ≤ length line)
         × ((written (list_path_bytes line) out).text_length ≤ length line) }
+    // The text of an address has at most 49 bytes.
+    ensures address { (number port : ℕ) (ip : Bytes) (text : Made) (out : Bytes)
+        → ((k : ℕ) → slice_index ip k < 256) → IsWrittenBy (form_for number port) ip port text
+        → (written text out).text_length ≤ 49 }
 {}
 
 /// So much room the lines of a log need at most.
@@ -175,9 +180,12 @@ pub fn lines_of_exchanges_are_printable()
 /// There is one line of an exchange, or one reason why there is none, but where memory runs out: so
 /// each error comes exactly where it is meant to.
 pub fn exchanges_have_one_line()
-    ensures { (shown replies : Bytes) (bytes other : Made) → IsExchangeLine shown replies bytes
-        → IsExchangeLine shown replies other → bytes ≢ Err OutOfMemory
-        → other ≢ Err OutOfMemory → bytes ≡ other }
+    ensures same { (shown replies : Bytes) (bytes other : Made)
+        → IsExchangeLine shown replies bytes → IsExchangeLine shown replies other
+        → bytes ≢ Err OutOfMemory → other ≢ Err OutOfMemory → bytes ≡ other }
+    // Out of memory comes only where there is a line, so never in place of another error.
+    ensures memory { (shown replies : Bytes) → IsExchangeLine shown replies (Err OutOfMemory)
+        → (text : Bytes) × IsExchangeLine shown replies (Ok text) }
 {}
 
 /// The calls of a client are steps of one dialogue: whatever lines it notes and replies it reports,

@@ -1,8 +1,8 @@
 //! Addresses of data connections, worked out by hand.
 #![tactic(auto, unfolding(unftp_control_defs::proofs::Computing::at_bytes))]
 
-ghost use Rattle.std.specs.Prelude.{◌≡◌, [], ◌∷◌, ◌++◌, Ok, Err, codes};
-ghost use Rattle.unftp_control_c.specs.Addresses.{IsReadBy, IsWrittenBy, form_for, form_of, left_by};
+ghost use Rattle.std.specs.Prelude.{◌≡◌, [], ◌∷◌, ◌++◌, None, Ok, Err, codes};
+ghost use Rattle.unftp_control_c.specs.Addresses.{IsReadBy, IsWrittenBy, form_for, form_of, found_meant, host_bytes, left_by};
 ghost use Rattle.unftp_control_c.specs.declared.status.Status.TheVariants.{InvalidArgument, NoAddress, OutOfMemory, UnknownProtocol};
 
 /// Addresses that are read, by the number of their form, and texts without one.
@@ -31,6 +31,8 @@ pub fn areas_have_addresses()
         ≡ record { result = 107; area = codes "..."; ip_length = 4; port = 21 } }
     ensures no_address { left_by (Err NoAddress) (codes ".")
         ≡ record { result = 112; area = codes "."; ip_length = 0; port = 0 } }
+    ensures no_host { found_meant (Ok (None, 21)) ≡ Ok (host_bytes None, 21) }
+    ensures no_bytes { host_bytes None ≡ [] }
 {}
 
 /// Texts that are written, and addresses that have none.

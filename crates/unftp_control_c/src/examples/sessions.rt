@@ -9,9 +9,9 @@ ghost use Rattle.unftp_control_defs.specs.declared.parameters.AuthParam.TheVaria
 ghost use Rattle.unftp_control_client.specs.Dialogue.{new_dialogue};
 ghost use Rattle.unftp_control_client.specs.declared.dialogue.To.TheVariants.{Command, Greeting, Nothing};
 ghost use Rattle.unftp_control_c.specs.Clients.{dialogue_of, may_begin_tls, new_client, place_in, to_number};
-ghost use Rattle.unftp_control_c.specs.ExchangeLines.{IsExchangeLine};
+ghost use Rattle.unftp_control_c.specs.ExchangeLines.{IsExchangeLine, IsLeftUnread};
 ghost use Rattle.unftp_control_c.specs.LogLines.{IsLogLine, numbered_log_line};
-ghost use Rattle.unftp_control_c.specs.Logins.{after_answer, after_event, kept_after_all, login_step, nobody, progress_of};
+ghost use Rattle.unftp_control_c.specs.Logins.{after_answer, after_event, kept_after_all, login_step, nobody, progress_of, step_number};
 ghost use Rattle.unftp_control_c.specs.declared.login.Progress.TheVariants.{Asked, LoggedIn, Named, NoName};
 ghost use Rattle.unftp_control_c.specs.declared.login.LoginStep.TheVariants.{AskAccounts, NeedLogin, NeedName, NeedPassword, PassOn};
 ghost use Rattle.unftp_control_c.specs.declared.status.Status.TheVariants.{InvalidArgument, Malformed, More, NoLine, OutOfMemory};
@@ -43,6 +43,9 @@ pub fn exchanges_are_logged()
     ensures complete { ¬ IsExchangeLine (codes "NOOP") [] (Err More) }
     ensures malformed { IsExchangeLine [] (codes "220 a\r\nb\r\n") (Err Malformed) }
     ensures memory { IsExchangeLine [] [] (Err OutOfMemory) }
+    ensures left_unread { IsLeftUnread (codes "b\r\n") OutOfMemory }
+    ensures nothing_to_read { ¬ IsLeftUnread [] More }
+    ensures fault_first { ¬ IsExchangeLine [] (codes "b\r\n") (Err OutOfMemory) }
     ensures no_memory { ¬ IsExchangeLine (127 ∷ []) [] (Err OutOfMemory) }
     ensures reply_left_out { ¬ IsExchangeLine [] (codes "220 a\r\n") (Ok (codes "->")) }
 {}
@@ -98,6 +101,8 @@ pub fn logins_come_on()
     ensures accepted { after_answer true Asked ≡ LoggedIn }
     ensures refused { after_answer false Asked ≡ NoName }
     ensures not_asked { after_answer true Named ≡ Named }
+    ensures first_step { step_number PassOn ≡ 0 }
+    ensures last_step { step_number NeedLogin ≡ 4 }
     ensures last { progress_of 3 ≡ Asked }
     ensures unknown { progress_of 4 ≡ NoName }
 {}

@@ -1,4 +1,4 @@
-use Rattle.std.proofs.Common.{◌≡◌, ℕ, Option, None, Some, codes, refl, sym, ap, ◌∙◌}
+use Rattle.std.proofs.Common.{◌≡◌, ℕ, Option, None, Some, codes, refl, sym, ap, arith, ◌∙◌}
 use Rattle.std.proofs.lemmas.Option.{none-some, same_Some}
 use Rattle.unftp_control_defs.specs.Bytes.{Bytes}
 use Rattle.unftp_control_address.specs.Extended.{Fields, HasOtherProtocol, fields}
@@ -42,4 +42,6 @@ returns c = record {
         (ap (λ (parts : Fields). short parts.port) (same_Some _ _ is.cut) ∙ is.port),
   );
   not_ended = λ address is. none-some _ is.cut;
+  other_host = (λ is. omega (arith, is), λ is. omega (arith, is));
+  known_host = λ why. why.1 refl;
 }

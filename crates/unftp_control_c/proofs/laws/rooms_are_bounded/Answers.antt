@@ -6,6 +6,7 @@ use Rattle.unftp_control_codecs.specs.LineFeed.{line_feed_from}
 use Rattle.unftp_control_c.specs.declared.status.Status.TheVariants.{NoRoom}
 use Rattle.unftp_control_c.specs.Next.{Call, Left, given_for}
 use Rattle.unftp_control_c.specs.Numbers.{status_number}
+use Rattle.unftp_control_c.proofs.AddressRoomLemmas.{address_room}
 use Rattle.unftp_control_c.proofs.CallLemmas.{FirstEvent, NextLeft, gave, no_room, gives_some, left_so}
 use Rattle.unftp_control_c.proofs.FoundRoomLemmas.{found_room}
 use Rattle.unftp_control_c.proofs.ParameterRoomLemmas.{parameter_room}
@@ -47,4 +48,5 @@ returns c = record {
   quoted = quoted_room;
   lines = found_room;
   parameter = parameter_room;
+  address = address_room;
 }

@@ -30,7 +30,7 @@ returns-then-is_one_line-clause-read_back c =
 pub write_fitting_lines-requires-clause-room : goal.write_fitting_lines-requires-clause-room
 write_fitting_lines-requires-clause-room c = omega (
   arith,
-  c.if-surely_fit.ensures refl,
+  c.if-surely_fit.ensures.0 refl,
   lines_room c.args.code c.args.text.now (c.if-not-is_reply_code.ensures.0 refl)
       (λ one. false≢true (c.if-is_one_line.ensures.1 one)),
 )

@@ -5,6 +5,7 @@ use Rattle.unftp_control_defs.proofs.Computing.{at_bytes}
 use Rattle.unftp_control_defs.proofs.ReplyLemmas.{FrontReply-front_of, IsMalformed-front_of, IsPartial-front_of, none_of_nothing}
 use Rattle.unftp_control_log.specs.Exchanges.{Read}
 use Rattle.unftp_control_c.specs.ExchangeLines.{shown_exchange}
+use Rattle.unftp_control_c.proofs.ExchangeLawLemmas.{malformed_front}
 use Rattle.unftp_control_c.proofs.examples.sessions.exchanges_are_logged.Goals as goal
 
 pub returns-clause-greeting : goal.returns-clause-greeting
@@ -104,7 +105,24 @@ returns-clause-malformed c = (
 )
 
 pub returns-clause-memory : goal.returns-clause-memory
-returns-clause-memory c = (tt, tt)
+returns-clause-memory c = (tt, ([], refl))
+
+malformed_first : (replies : List Read) → AreReplies (codes "b\r\n") replies [] → ⊥
+unfolding at_bytes
+malformed_first [] is = cc
+malformed_first (reply ∷ replies) (next, takes, are) =
+    malformed_front (codes "b\r\n") (IsMalformed-front_of (codes "b\r\n") refl)
+    (reply.0, reply.1, takes.used, takes.front)
+
+pub returns-clause-left_unread : goal.returns-clause-left_unread
+returns-clause-left_unread c = tt
+
+pub returns-clause-nothing_to_read : goal.returns-clause-nothing_to_read
+returns-clause-nothing_to_read c (replies, rest, are, (some, partial)) =
+    nothing_left replies rest are some
+
+pub returns-clause-fault_first : goal.returns-clause-fault_first
+returns-clause-fault_first c (printable, (replies, are)) = malformed_first replies are
 
 pub returns-clause-no_memory : goal.returns-clause-no_memory
 returns-clause-no_memory c why = omega (arith, why.0.0.1)
