@@ -61,6 +61,7 @@ pub use Rattle.unftp_control_login.specs.SessionState
 pub use Rattle.unftp_control_login.specs.Login
 pub use Rattle.unftp_control_login.specs.HandlerCalls
 pub use Rattle.unftp_control_login.specs.Gate
+pub use Rattle.unftp_control_login.specs.Asked
 pub use Rattle.unftp_control_login.specs.LoginLimit
 pub use Rattle.unftp_control_login.specs.Promises
 pub use Rattle.unftp_control_read.specs.Reading

@@ -190,7 +190,7 @@ pub fn lines_of_events()
 {}
 
 /// Bytes after the line that ended the session change nothing: not what is written, nor the
-/// handler's state, nor which bytes are scanned.
+/// handler's state, nor where the bytes after the end begin.
 pub fn nothing_after_the_end<H: Session>()
     ensures text { (heard : List H.Heard) (limit : Option ℕ) (s : H.State)
         (input more other : Bytes)

@@ -44,10 +44,12 @@ impl Metadata for File {
 
 mod counted {
     use super::File;
+    use crate::held::assert_held;
     use jiff::Timestamp;
     use std::alloc::Global;
     use std::process::Abort;
-    use unftp_control::commands::format_facts;
+    use unftp_control::codecs::encode_reply;
+    use unftp_control::commands::{Mlst, format_facts};
 
     /// The facts of the file are these.
     fn assert_facts(rt: &impl Abort, alloc: Global, file: File, want: &str) {
@@ -97,5 +99,32 @@ mod counted {
         assert_owned(&rt, rt.alloc(), 0, 1000, facts);
         let facts = "type=dir;size=18446744073709551615;unix.uid=4294967295;unix.gid=4294967295;";
         assert_owned(&rt, rt.alloc(), u64::MAX, u32::MAX, facts);
+    }
+
+    /// The reply to MLST without a path, in `/pub`, has these bytes where this was found.
+    fn assert_listed(rt: &impl Abort, alloc: Global, found: Result<&File, &str>, want: &[u8]) {
+        let reply = Mlst::new(None)
+            .reply(alloc, "/pub", found)
+            .expect(rt, "memory");
+        let mut bytes = Vec::new(alloc);
+        assert!(rt; encode_reply(&reply, &mut bytes).is_ok());
+        drop(reply);
+        assert_held(rt, bytes, want);
+    }
+
+    #[test]
+    fn takes_15_for_mlst_of_a_directory_and_of_faults(rt: HostRuntime) {
+        let alloc = rt.alloc();
+        let directory = File {
+            is_dir: true,
+            size: 0,
+            modified: None,
+            owner: 1000,
+        };
+        let listed =
+            b"250- Listing\r\n type=dir;size=0;unix.uid=1000;unix.gid=1000; /pub\r\n250 End\r\n";
+        assert_listed(&rt, alloc, Ok(&directory), listed);
+        assert_listed(&rt, alloc, Err("no such file"), b"550 no such file\r\n");
+        assert_listed(&rt, alloc, Err(""), b"550\r\n");
     }
 }

@@ -1,19 +1,21 @@
 //! The streams and the handlers of sessions, which fail when they are asked to.
-ghost use Rattle.std.specs.Prelude.{◌≡◌, IfOk, Some};
+ghost use Rattle.std.specs.Prelude.{◌≡◌, ◌&&◌, IfOk, Some, bytes_eq, codes, string_bytes};
 ghost use Rattle.std.specs.Io.{WritesAtMost};
+ghost use Rattle.unftp_control_defs.specs.Events.{Refused};
 ghost use Rattle.unftp_control_message.specs.CommandMeaning.{command_of};
+ghost use Rattle.unftp_control_message.specs.ErrorMeaning.{fault_of};
 ghost use Rattle.unftp_control_message.specs.ReplyMeaning.{reply_of};
 ghost use Rattle.unftp_control_serve.specs.EventMeaning.{event_meant};
-ghost use Rattle.vector_replay.specs.Script.{ScriptState, command_reply, event_reply, is_help, script_law};
+ghost use Rattle.vector_replay.specs.Script.{ScriptState, command_reply, event_reply, not_implemented, script_law, site_reply};
 
 use example_callers::transfers::{Answers, DataConnection};
-use itoa::Buffer;
 use std::alloc::{AllocError, Global};
 use std::io;
 use std::io::{Read, Write};
 use unftp_control_commands::Help;
+use unftp_control_login::Accounts;
 use unftp_control_message::Command;
-use unftp_control_message::reply::error::ControlChanError;
+use unftp_control_message::reply::error::{ControlChanError, Source};
 use unftp_control_message::reply::{Reply, ReplyCode};
 use unftp_control_serve::{Count, Event, Handler};
 
@@ -93,9 +95,9 @@ impl Write for Room<'_> {
     }
 }
 
-/// Answers a command with its value or OK, HELP with several lines and a refused line with its kind,
-/// or nothing at all; it is done once QUIT came. At an event whose turn is an error it fails with
-/// that of the line, or else with the turn's.
+/// Answers NOOP, QUIT, HELP, SITE and refused lines as `control_demo` does, and any other command by
+/// 502; or nothing at all. It is done once QUIT came. At an event whose turn is an error it fails
+/// with that of the line, or else with the turn's.
 #[derive(Drop)]
 pub struct Scripted<'a> {
     pub is_silent: bool,
@@ -154,39 +156,65 @@ fn answer_event(alloc: Global, event: Event) -> Result<Reply, ControlChanError>
     ensures { IfOk result (λ reply. reply_of reply ≡ event_reply (event_meant event)) }
 {
     match event {
-        Event::Command(command) => {
-            let reply = answer_command(alloc, &command);
-            drop(command);
-            reply
-        }
-        Event::Refused(error) => {
-            let text = format!(in alloc; "{}", error.kind())?;
-            Ok(Reply::new_with_string(ReplyCode::CommandSyntaxError, text))
-        }
+        Event::Command(command) => answer_command(alloc, command),
+        Event::Refused(error) => answer_refusal(alloc, error),
     }
 }
 
 /// The reply to a command.
-fn answer_command(alloc: Global, command: &Command) -> Result<Reply, ControlChanError>
-    ensures { IfOk result (λ reply. reply_of reply ≡ command_reply (command_of command.now)) }
+fn answer_command(alloc: Global, command: Command) -> Result<Reply, ControlChanError>
+    ensures { IfOk result (λ reply. reply_of reply ≡ command_reply (command_of command)) }
 {
-    if is_help(command) {
-        return Help.reply(alloc);
-    }
-    match command.name_and_value(&mut Buffer::new()).1 {
-        Some(value) => {
-            let text = String::from_utf8_lossy(alloc, value)?;
-            Ok(Reply::new_with_string(ReplyCode::CommandOkay, text))
-        }
-        None => Reply::new(alloc, ReplyCode::CommandOkay, "OK"),
+    match command {
+        Command::Noop => Reply::new(alloc, ReplyCode::CommandOkay, "OK"),
+        Command::Quit => Reply::new(alloc, ReplyCode::ClosingControlConnection, "Bye"),
+        Command::Help => Help.reply(alloc),
+        Command::Site { command, arguments } => answer_site(alloc, command, arguments),
+        _ => not_implemented(alloc),
     }
 }
 
-/// Whether a command is HELP.
-fn is_help(command: &Command) -> bool
-    ensures { result ≡ is_help (command_of command.now) }
+/// The reply to SITE.
+fn answer_site(alloc: Global, command: String, arguments: String) -> Result<Reply, ControlChanError>
+    ensures { IfOk result (λ reply.
+        reply_of reply ≡ site_reply (string_bytes command) (string_bytes arguments)) }
 {
-    matches!(command, Command::Help)
+    match command.as_str() {
+        "ECHO" => Ok(Reply::new_with_string(ReplyCode::CommandOkay, arguments)),
+        _ => not_implemented(alloc),
+    }
+}
+
+/// The reply to any other command.
+fn not_implemented(alloc: Global) -> Result<Reply, ControlChanError>
+    ensures { IfOk result (λ reply. reply_of reply ≡ not_implemented) }
+{
+    Reply::new(alloc, ReplyCode::CommandNotImplemented, "Not implemented")
+}
+
+/// The reply to a line that is no command: why the parser refused it, or else the kind of the
+/// error.
+fn answer_refusal(alloc: Global, error: ControlChanError) -> Result<Reply, ControlChanError>
+    ensures { IfOk result (λ reply. reply_of reply ≡ event_reply (Refused (fault_of error))) }
+{
+    let text = match error.source() {
+        Source::Parse(parse) => format!(in alloc; "{}", parse.kind())?,
+        _ => format!(in alloc; "{}", error.kind())?,
+    };
+    Ok(Reply::new_with_string(ReplyCode::CommandSyntaxError, text))
+}
+
+/// Accounts of one name.
+#[derive(Drop)]
+pub struct OneAccount;
+
+impl Accounts for OneAccount {
+    ghost accepts = { λ _ name password.
+        bytes_eq (codes "anna") name && bytes_eq (codes "secret") password };
+
+    fn accepts(&self, name: &[u8], password: &[u8]) -> bool {
+        "anna".as_bytes() == name && "secret".as_bytes() == password
+    }
 }
 
 /// How many bytes a data connection takes without memory for them.

@@ -1,14 +1,18 @@
 //! Sessions: `serve` and `feed` over streams and handlers that may fail.
 use crate::answers::{Answered, Answers};
-use crate::handlers::{Pieces, Room, Scripted, Turns, Wire};
+use crate::handlers::{OneAccount, Pieces, Room, Scripted, Turns, Wire};
 use crate::shown::Quoted;
 use crate::words::{CaseError, Word, Words, read_limit};
 use example_callers::log::log_lines;
+use example_callers::member_file::{file_gate, serve_file};
 use example_callers::transfers::Transfers;
 use std::alloc::Global;
 use std::fmt::Display;
 use std::num::NonZeroUsize;
-use unftp_control_serve::{Count, Engine, Input, Output, Session, Sink, serve, serve_with_limit};
+use unftp_control_login::Gate;
+use unftp_control_serve::{
+    Count, Engine, Input, Output, ServeError, Served, Session, Sink, serve, serve_with_limit,
+};
 
 /// How many bytes there are for how each call ended.
 const ENDS: usize = 48;
@@ -82,6 +86,14 @@ fn note(ends: &mut String, end: impl Display + Drop, is_done: bool) {
     let _ = write!(ends, "{end}{} | ", if is_done { " done" } else { "" });
 }
 
+/// Notes how a call that serves ended.
+fn note_served(ends: &mut String, served: Result<Served, ServeError>) {
+    match served {
+        Ok(served) => note(ends, format_args!("ok left={}", served.left), served.done),
+        Err(error) => note(ends, format_args!("{error:?}"), false),
+    }
+}
+
 /// Serves what the reader gives, and once more where that is asked for.
 fn serve_all<H: Session>(
     case: &SessionCase<'_>,
@@ -102,11 +114,20 @@ fn serve_all<H: Session>(
                 serve_with_limit(case.alloc, limit.get(), &mut reader, &mut writer, handler)
             }
         };
-        match served {
-            Ok(served) => note(ends, format_args!("ok left={}", served.left), served.done),
-            Err(error) => note(ends, format_args!("{error:?}"), false),
-        }
+        note_served(ends, served);
     }
+}
+
+/// Serves what the reader gives to who logs in.
+fn serve_member(
+    case: &SessionCase<'_>,
+    reader: &mut Pieces<'_, '_>,
+    room: &mut Room<'_>,
+    gate: &mut Gate<OneAccount, Transfers<Wire<'_>>>,
+    ends: &mut String,
+) {
+    let (mut reader, mut writer) = (Input::new(reader), Output::new(room));
+    note_served(ends, serve_file(case.alloc, &mut reader, &mut writer, gate));
 }
 
 /// Logs what the reader gives.
@@ -235,15 +256,38 @@ pub fn answer_log_lines(words: &mut Words<'_>, answers: &mut Answers) -> Answere
     Streams { reader, room, ends }.put(&case, answers)
 }
 
+/// Writes how the session of who logs in goes, and what it transfers.
+fn put_member(case: &SessionCase<'_>, answers: &mut Answers) -> Answered {
+    let wire = Wire::new(case.alloc, case.turns("turns"))?;
+    let mut gate = file_gate(OneAccount, wire, Vec::new(case.alloc));
+    let Streams {
+        mut reader,
+        mut room,
+        mut ends,
+    } = Streams::new(case)?;
+    answers.begin();
+    serve_member(case, &mut reader, &mut room, &mut gate, &mut ends);
+    Streams { reader, room, ends }.put(case, answers)?;
+    put_transfers(gate.handler(), answers);
+    Ok(())
+}
+
+/// Writes what was transferred.
+fn put_transfers(transfers: &Transfers<Wire<'_>>, answers: &mut Answers) {
+    let sent = Quoted(transfers.connection().taken.as_slice());
+    answers.put(format_args!(" sent={sent} file={}", Quoted(transfers.file())));
+}
+
 /// `serve WORD.. INPUT`, or `feed WORD.. PIECE..`
 pub fn answer_session(is_served: bool, words: &mut Words<'_>, answers: &mut Answers) -> Answered {
     let case = SessionCase::read(answers.alloc, is_served, words)?;
-    if case.has("transfers") {
+    if is_served && case.has("login") {
+        put_member(&case, answers)?;
+    } else if case.has("transfers") {
         let wire = Wire::new(case.alloc, case.turns("turns"))?;
         let mut transfers = Transfers::new(wire, Vec::new(case.alloc));
         put_session(&case, &mut transfers, answers)?;
-        let sent = Quoted(transfers.connection().taken.as_slice());
-        answers.put(format_args!(" sent={sent} file={}", Quoted(transfers.file())));
+        put_transfers(&transfers, answers);
     } else {
         let mut scripted = Scripted {
             is_silent: case.has("silent"),

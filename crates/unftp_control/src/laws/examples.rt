@@ -7,6 +7,7 @@ pub mod decoding;
 pub mod definitions;
 pub mod engine;
 pub mod memory;
+pub mod parts;
 pub mod receiving;
 pub mod serving;
 pub mod texts;

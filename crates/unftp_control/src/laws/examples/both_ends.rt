@@ -1,15 +1,23 @@
 //! Examples of what a client and a server understand of each other, worked out by hand.
 #![tactic(auto, unfolding(unftp_control_defs::proofs::Computing::at_bytes))]
 
-ghost use Rattle.std.specs.Prelude.{◌≡◌, ◌≢◌, ◌∷◌, ◌++◌, [], None, Some, codes};
+ghost use Rattle.std.specs.Prelude.{◌≡◌, ◌≢◌, ◌∷◌, ◌++◌, [], None, Some, codes, false};
+ghost use Rattle.std.specs.List.{concat};
 ghost use Rattle.unftp_control_defs.specs.Events.{events};
 ghost use Rattle.unftp_control_defs.specs.FtpCommand.{Noop, Retr};
 ghost use Rattle.unftp_control_defs.specs.FtpReply.{CodeAndMsg, MultiLine, Nothing, IsReadable};
+ghost use Rattle.unftp_control_defs.specs.ReplyReader.{HasFront};
+ghost use Rattle.unftp_control_defs.specs.Run.{text_for};
+ghost use Rattle.unftp_control_defs.specs.TakingSteps.{AreTakingSteps, TakesReply, all_pushed};
+ghost use Rattle.unftp_control_proxy.specs.ProxyCalls.{new_proxy};
+ghost use Rattle.unftp_control_proxy.specs.Traffic.{ChangesNothing, IsTraffic, client_lines};
+ghost use Rattle.unftp_control_proxy.specs.declared.proxy.Limits.{Limits as RustLimits};
 ghost use Rattle.unftp_control_client.specs.Steps.{Received, SentLine};
 ghost use Rattle.unftp_control_client.specs.declared.Client.{Client as RustClient};
 ghost use Rattle.unftp_control_client.specs.declared.dialogue.To.TheVariants.{Command, Greeting};
-ghost use Rattle.unftp_control.specs.Acts.{AreFirst, AtClient, AtServer, InOrder, IsConversation, IsUnderstood, exchanges, turns_to};
-ghost use Rattle.unftp_control.specs.ClientRuns.{client_with, dialogue, farewell_server, noop, reply_with, talk};
+ghost use Rattle.unftp_control.specs.Acts.{AreFirst, AtClient, AtServer, InOrder, IsConversation, IsUnderstood, came_to_client, exchanges, sent_by_client, turns_to, written_by};
+ghost use Rattle.unftp_control.specs.ClientRuns.{after_noop, client_with, dialogue, farewell_server, noop, noop_traffic, replies_in_pieces, reply_with, talk};
+ghost use Rattle.unftp_control.specs.Snapshots.{farewell};
 ghost use Rattle.unftp_control.specs.Conversation.{CanBeSent, KeepsMeaning, Show, ShowTurns, forwarded_of, rewritten};
 
 /// Commands that a client can send.
@@ -48,6 +56,33 @@ pub fn acts_are_in_order()
         (AtClient (SentLine noop) ∷ AtServer (codes "NO") ∷ []) (client_with (dialogue 1 None) []) }
     ensures came_first { (client : RustClient) → ¬ IsConversation farewell_server None
         (AtServer (codes "NO") ∷ AtClient (SentLine noop) ∷ []) client }
+{}
+
+/// NOOP is sent, and the client takes the greeting and the reply: it is what `any_order` asks for,
+/// up to its end.
+pub fn a_conversation_goes_so()
+    ensures whole { IsConversation farewell_server None talk (client_with (dialogue 1 (Some 1)) []) }
+    ensures understood { IsUnderstood (turns_to farewell_server (sent_by_client talk)) }
+    ensures all_came { came_to_client talk ≡ written_by farewell_server (sent_by_client talk) }
+    ensures nothing_left { ¬ HasFront (client_with (dialogue 1 (Some 1)) []).replies.bytes }
+{}
+
+/// The same through a proxy: it is what `conversation_through_a_proxy` asks for, up to its end, and
+/// what `served_as_without_a_proxy` does.
+pub fn a_conversation_passes_so()
+    ensures traffic { (limits : RustLimits)
+        → IsTraffic (new_proxy limits) noop_traffic (after_noop limits) }
+    ensures unchanged { ChangesNothing noop_traffic }
+    ensures all_came { noop_traffic.from_server
+        ≡ written_by farewell_server noop_traffic.to_server }
+    ensures served { noop_traffic.from_server
+        ≡ codes "220\r\n" ++ text_for None farewell false noop_traffic.to_server }
+    ensures nothing_kept { (limits : RustLimits) → (after_noop limits).server.bytes ≡ [] }
+    ensures understood { IsUnderstood
+        (turns_to farewell_server (concat (client_lines noop_traffic.lines))) }
+    ensures taken { AreTakingSteps TakesReply [] replies_in_pieces [] }
+    ensures pushed { all_pushed replies_in_pieces ≡ noop_traffic.to_client }
+    ensures nothing_left { ¬ HasFront [] }
 {}
 
 /// Turns that a client understands, and what each of their replies is to.

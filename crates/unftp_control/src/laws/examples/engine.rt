@@ -1,14 +1,15 @@
 //! Snapshots worked out by hand: what the definitions of the clauses of `feed` say of them.
-ghost use Rattle.std.specs.Prelude.{⊤, ◌≡◌, ◌+◌, ◌≤◌, ℕ, [], ◌∷◌, None, Some, Ok, Err, codes};
+ghost use Rattle.std.specs.Prelude.{⊤, ◌≡◌, false, true, ◌+◌, ◌≤◌, ℕ, [], ◌∷◌, None, Some, Ok, Err, codes};
 ghost use Rattle.std.specs.Io.KnownBytes.{Appends};
 ghost use Rattle.unftp_control_defs.specs.Bytes.{Bytes};
 ghost use Rattle.unftp_control_defs.specs.Events.{Fault, Command};
 ghost use Rattle.unftp_control_defs.specs.FtpCommand.{User};
 ghost use Rattle.unftp_control_defs.specs.FtpReply.{CodeAndMsg};
-ghost use Rattle.unftp_control_serve.specs.Endings.{Snapshot, Finished, Write, Handler, LineMemory, ReplyMemory, IsCauseOf, AllAnswered, EventFailed, RunEnded, RunFailed, NoRoom, OnWrite};
-ghost use Rattle.unftp_control_serve.specs.Engine.{LacksPieceRoom, fed};
+ghost use Rattle.unftp_control_serve.specs.Endings.{Snapshot, Finished, Write, Handler, LineMemory, ReplyMemory, IsCauseOf, AllAnswered, EventFailed, RunEnded, RunFailed, RunOutcome, PieceOutcome, NoRoom, OnWrite};
+ghost use Rattle.unftp_control_serve.specs.Engine.{IsFed, LacksPieceRoom, fed};
 ghost use Rattle.unftp_control.specs.Snapshots.{counter, noop, silent, snapshot, two_replies, waiting};
-ghost use Rattle.unftp_control_serve.specs.Writing.{Begins, IsFlushed, OneFlush, OneWrite, OutputState, Sends};
+ghost use Rattle.unftp_control_serve.specs.Writing.{Begins, IsFlushed, OneFlush, OneWrite, OutputState, Sends, output_state_of};
+ghost use Rattle.unftp_control_serve.specs.declared.output.Output.{Output};
 
 use unftp_control_serve::ServeError;
 
@@ -35,6 +36,18 @@ pub fn writes_are_recorded_so()
     ensures not_flushed { (before after : OutputState)
         → OneFlush {T = ℕ} {E = ℕ} (Err 5) before after
         → before.unflushed ≡ 1 → after.unflushed ≡ 0 → ⊥ }
+{}
+
+/// What is recorded of an output: what its writes took, and what is known of its writer.
+pub fn outputs_are_seen_so()
+    ensures known { (output : Output ℕ) → output.taken ≡ codes "x" → output.unflushed ≡ 1
+        → output.failures ≡ 2 → output_state_of (λ writer. Some (writer ∷ [])) output ≡ record {
+          taken = codes "x";
+          unflushed = 1;
+          failures = 2;
+          written = Some (output.writer ∷ []);
+        } }
+    ensures unknown { (output : Output ℕ) → (output_state_of (λ _. None) output).written ≡ None }
 {}
 
 /// The writer failed at the reply to the second of two events: the first was written and flushed,
@@ -106,8 +119,27 @@ pub fn flushes_and_beginnings()
 
 /// How much an engine keeps of an incomplete line that is within the limit, and of one that is not.
 pub fn an_engine_keeps_this()
-    ensures at_the_limit { (fed counter 3 (waiting (Some 5)) (codes "OP")).buffered ≡ 4 }
-    ensures over_the_limit { (fed counter 3 (waiting (Some 4)) (codes "OP")).buffered ≡ 0 }
+    ensures at_the_limit { (fed counter 3 (waiting (Some 5)) (codes "OP") 0).buffered ≡ 4 }
+    ensures over_the_limit { (fed counter 3 (waiting (Some 4)) (codes "OP") 0).buffered ≡ 0 }
+{}
+
+/// What is left after a piece: all its lines are answered, each byte was scanned once, and the
+/// incomplete line is pending; or there was no room for it.
+pub fn pieces_are_answered()
+    ensures answered { (after : Snapshot ℕ) → PieceOutcome {T = ℕ} None counter
+        (snapshot 3 (codes "x") 1) (codes "NOOP\r\nNO") ⊥ after (Ok 0) → after.state ≡ 4 }
+    ensures without_room { PieceOutcome {T = ℕ} None counter (snapshot 3 [] 0) (codes "NO") ⊤
+        (snapshot 3 [] 0) (Err ServeError.OutOfMemory) }
+    ensures left { (after : Snapshot ℕ) (left : Bytes) → RunOutcome None counter (snapshot 3 [] 0)
+        (codes "NOOP\r\nNO") after left (Ok false) → left ≡ codes "NO" }
+    ensures goes_on { (after : Snapshot ℕ) (left : Bytes) → RunOutcome None counter (snapshot 3 [] 0)
+        (codes "NOOP\r\nNO") after left (Ok true) → ⊥ }
+    ensures fed { IsFed counter 3 (waiting (Some 5)) (codes "OP")
+        (fed counter 3 (waiting (Some 5)) (codes "OP") 4) }
+    ensures one_missed { ¬ IsFed counter 3 (waiting (Some 5)) (codes "OP")
+        (fed counter 3 (waiting (Some 5)) (codes "OP") 3) }
+    ensures one_twice { ¬ IsFed counter 3 (waiting (Some 5)) (codes "OP")
+        (fed counter 3 (waiting (Some 5)) (codes "OP") 5) }
 {}
 
 /// There is no lack of memory for no piece, and no other error means one.

