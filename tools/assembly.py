@@ -1,16 +1,21 @@
-"""The assembly text in generated/: how it is made, and what its head says."""
+"""The assembly text in generated/: how it is made."""
 
 import hashlib
 import pathlib
 import re
+import shlex
 import subprocess
 import tempfile
 
+import objects
 import proved
-from library import HEADER, RUST_TEXTS, TOP, calls, text_file, version
+from library import HEADER, TOP, calls, version
 from proved import NotMade
+from statements import Unknown, defined, renamed
 
 MEMORY = TOP / "tools/memory.c"
+# what makes the text of the crates
+MAKERS = ["generated", "assembly.py", "library.py", "objects.py", "proved.py", "statements.py"]
 # what the text is made for: the processor as its file names it, as the toolchain does, and the oldest of its kind
 TARGETS = {
     "x86_64": ("x86_64-unknown-linux-gnu", "x86-64", "x86-64"),
@@ -27,14 +32,16 @@ HEAD = """/*
  * sources: sha256 {sources}
  */
 """
-NAME = r'"(?:[^"\\]|\\.)*"|[A-Za-z_.$][\w.$]*'
+# what the compiler writes and the text has not: comments, the compiler's name and its files, and which names are global
+LEFT_OUT = r'\t(#|//)(NO_)?APP$|\t\.(file|globl|section\t"\.note\.GNU-stack")|\t\.ident\t"(?!rattle )'
 
 
 def source_files():
     """The files that the text is made of, but for crates.txt."""
     folders = [proved.CRATES / crate / part for crate in proved.own_crates() for part in ["src", "specs", "proofs"]]
     files = [path for folder in folders for kind in ["rt", "antt"] for path in folder.rglob(f"*.{kind}")]
-    return sorted([*files, MEMORY, HEADER], key=lambda path: path.relative_to(TOP).parts)
+    files += [*(TOP / "tools" / name for name in MAKERS), MEMORY, HEADER]
+    return sorted(files, key=lambda path: path.relative_to(TOP).parts)
 
 
 def sources():
@@ -48,24 +55,9 @@ def sources():
     return summed.hexdigest()
 
 
-def head(processor):
-    """What the head of a text says: its toolchain and its sources."""
-    text = text_file(processor).read_text(encoding="utf-8").split("*/", 1)[0]
-    found = dict(re.findall(r"^ \* (toolchain|sources): (.*)$", text, re.M))
-    if sorted(found) != ["sources", "toolchain"]:
-        raise NotMade(f"{text_file(processor).relative_to(TOP)} names no toolchain or no sources")
-    return found["toolchain"], found["sources"].removeprefix("sha256 ")
-
-
-def check_sources(processor):
-    """Says of which toolchain the text is, where it is of the sources that are here, and the crate in Rust has the same."""
-    toolchain, summed = head(processor)
-    if summed != sources():
-        raise NotMade(f"{text_file(processor).relative_to(TOP)} is of other sources: run tools/generated --write")
-    text = text_file(processor)
-    if text.read_bytes() != (RUST_TEXTS / text.name).read_bytes():
-        raise NotMade(f"{RUST_TEXTS.relative_to(TOP)} has another {text.name}: run tools/generated --write")
-    return f"of these sources, by {toolchain}"
+def head_of(processor, toolchain):
+    """The head of a text that this toolchain has made of the sources that are here."""
+    return HEAD.format(version=version(), oldest=TARGETS[processor][2], toolchain=toolchain, sources=sources())
 
 
 def own_toolchain():
@@ -77,7 +69,7 @@ def own_toolchain():
 
 
 def with_its_text(kit, folder, text):
-    """A folder of tools like the toolchain's, whose compiler also writes the assembly text of each object that it makes."""
+    """A folder of tools like the toolchain's, whose compiler also writes the assembly text of its one object."""
     (folder / "bin").mkdir(parents=True)
     (folder / "lib").symlink_to(kit / "toolchain/lib")
     for tool in (kit / "toolchain/bin").iterdir():
@@ -85,8 +77,12 @@ def with_its_text(kit, folder, text):
     compiler = folder / "bin/clang"
     real = compiler.readlink()
     compiler.unlink()
+    real, text = shlex.quote(str(real)), shlex.quote(str(text))
     script = f"""#!/bin/sh
-case " $* " in *" -c "*) {real} "$@" -S -fno-verbose-asm -fno-addrsig -Wno-unused-command-line-argument -o {text} || exit ;; esac
+case " $* " in *" -c "*)
+    set -- "$@" -fno-addrsig
+    [ ! -e {text} ] && {real} "$@" -S -fno-verbose-asm -Wno-unused-command-line-argument -o {text} || exit ;;
+esac
 exec {real} "$@"
 """
     compiler.write_text(script, encoding="utf-8")
@@ -104,7 +100,9 @@ def compiled(processor, work):
     flags = [f"--target={target}", f"-march={oldest}", "--no-default-config", "-O3", "-fPIC", "-ffunction-sections", "-fno-verbose-asm", "-fno-addrsig"]
     flags += ["-fno-asynchronous-unwind-tables", "-Wall", "-Wextra", "-Werror"]
     subprocess.run([kit / "toolchain/bin/clang", *flags, "-S", MEMORY, "-o", memory], check=True)
-    return crates.read_text(encoding="utf-8"), memory.read_text(encoding="utf-8")
+    texts = [path.read_bytes().decode("latin-1") for path in [crates, memory]]
+    check_object(processor, work / "library.a", texts[0])
+    return texts
 
 
 def with_version(name, part=""):
@@ -116,17 +114,47 @@ def with_version(name, part=""):
     return f'"{mark}::{name[1:]}' if name.startswith('"') else f"{mark}_{name.removeprefix('unftp_')}"
 
 
-def defined(text):
-    """The names that a text defines."""
-    return {label or local for label, local in re.findall(rf"^({NAME}):|^\t\.local\t({NAME})$", text, re.M)}
+def new_names(texts):
+    """For each text the new names of what it may name: what it defines, and what the other defines as global."""
+    shared = {name for text in texts for name in defined(text) if f"\n\t.globl\t{name}\n" in text}
+    own = zip(map(defined, texts), ["", "memory_"])
+    return [{name: with_version(name, part) for name in shared | names} for names, part in own]
 
 
-def kept_lines(text, names):
+def kept_lines(text, names, processor):
     """The lines of a text with these names for its own. None is global, and none names the compiler or its files."""
-    for line in text.splitlines():
-        if not re.match(r'\t\.(file|globl|section\t"\.note\.GNU-stack")|\t\.ident\t"(?!rattle )', line):
-            is_data = re.match(r"\t\.(ident|ascii|asciz|string)\t", line)
-            yield line if is_data else re.sub(NAME, lambda found: names.get(found[0], found[0]), line)
+    return [renamed(line, names, processor) for line in text.split("\n")[:-1] if not re.match(LEFT_OUT, line)]
+
+
+def assembled(processor, lines, work):
+    """The object that the toolchain's assembler makes of lines."""
+    text, made = work.with_suffix(".s"), work.with_suffix(".o")
+    text.write_bytes("".join(f"{line}\n" for line in lines).encode("latin-1"))
+    # the gaps before loops are filled as where the compiler makes an object
+    flags = [f"--target={TARGETS[processor][0]}", "--no-default-config"]
+    flags += ["-Xclangas", "-target-cpu", "-Xclangas", "generic"]
+    subprocess.run([proved.toolchain() / "toolchain/bin/clang", *flags, "-c", text, "-o", made], check=True)
+    return made
+
+
+def check_object(processor, archive, text):
+    """The text that the compiler has written makes the same object as the one that the compiler has made."""
+    object_file = archive.with_suffix(".o")
+    with object_file.open("wb") as file:
+        subprocess.run([proved.toolchain() / "toolchain/bin/llvm-ar", "p", archive], stdout=file, check=True)
+    made = assembled(processor, text.split("\n")[:-1], archive.with_name("text"))
+    if objects.read(object_file) != objects.read(made):
+        raise NotMade("the compiler's text is assembled to something else than its object")
+
+
+def check_names(processor, text, names):
+    """The lines of a text, with its own names and with the new ones, make the same object but for these names."""
+    with tempfile.TemporaryDirectory() as name:
+        work = pathlib.Path(name)
+        old = assembled(processor, kept_lines(text, {}, processor), work / "old")
+        new = assembled(processor, kept_lines(text, names, processor), work / "new")
+        if not objects.same_but_for_names(old, new, names):
+            raise NotMade("with its new names the text is assembled to something else")
 
 
 def exported():
@@ -139,22 +167,24 @@ def exported():
     return [*lines, "\t.endif", '\t.section\t".note.GNU-stack","",@progbits']
 
 
-def whole_text(processor, texts):
+def whole_text(processor, texts, toolchain):
     """The text of what the compiler has written: that of the crates, and that of the functions for memory."""
     lines = []
-    shared = {name: with_version(name) for text in texts for name in defined(text) if not name.startswith(".L")}
-    for text, part in zip(texts, ["", "memory_"]):
-        lines += kept_lines(text, shared | {name: with_version(name, part) for name in defined(text) if name.startswith(".L")})
-    first = HEAD.format(version=version(), oldest=TARGETS[processor][2], toolchain=own_toolchain(), sources=sources())
-    return first + "\n".join([*lines, *exported()]) + "\n"
+    try:
+        for text, names in zip(texts, new_names(texts)):
+            check_names(processor, text, names)
+            lines += kept_lines(text, names, processor)
+    except Unknown as line:
+        raise NotMade(f"tools/statements.py doesn't know what the compiler has written: {line}") from line
+    return head_of(processor, toolchain) + "\n".join([*lines, *exported()]) + "\n"
 
 
-def make(processor):
-    """The text for a processor, of the crates that were proved in this copy."""
+def make(processor, toolchain):
+    """The text for a processor, of the crates that were proved in this copy, with the name of a toolchain."""
     if proved.missing():
         raise NotMade(f"{', '.join(proved.missing())}: not proved in this copy")
     with tempfile.TemporaryDirectory() as work:
-        text = whole_text(processor, compiled(processor, pathlib.Path(work)))
+        text = whole_text(processor, compiled(processor, pathlib.Path(work)), toolchain)
     if work in text or str(TOP) in text:
         raise NotMade("the text has a path of this machine")
     return text

@@ -23,6 +23,8 @@ usage: tools/checks/embedding.py sessions|session SERVER..        the replies of
        tools/checks/embedding.py stack STACK                        what it says of the stack: STACK is tools/checks/c/stack.c
        tools/checks/embedding.py allocations ALLOCATIONS            unftp_next asks for memory as often as parse does, or never where the line has the name and the value:
                                                              ALLOCATIONS is tools/checks/c/allocations.c
+       tools/checks/embedding.py shortcuts SHORTCUTS                the instructions of calls over long values: the short ways are taken.
+                                                             SHORTCUTS is tools/checks/c/shortcuts.c
 
 SERVER.., REPLAY.. and CALLS.. may be the program and what runs it. The last line says what was compared; the status is 0 where all is right.
 """
@@ -418,6 +420,8 @@ INPUT_FILES = [*LINE_FILES, "decode.tsv", "client_streams.tsv", "encode.tsv", "a
 
 # the lengths of long texts; under valgrind, of which only the first
 LONG_TEXTS = [100_000, 1_000_000, 10_000_000]
+# what the text of a 227 from a hostile server may repeat: no call would end in time that reads all of it again at each word
+HOSTILE_TEXTS = [b"1,", b"1 ", b"1,2,3,4,5,6,7 ", b"127,0,0,1,195,"]
 
 
 def said_of(program, inputs):
@@ -435,6 +439,7 @@ def said_of_inputs(*program):
     words = [word for name in INPUT_FILES for row in rows(name) for word in re.findall(r'"(?:[^"\\]|\\.)*"', row.case)]
     lengths = LONG_TEXTS[:1] if len(program) > 1 else LONG_TEXTS
     long = {b"RETR " + b"a" * length + b"\r\n" for length in lengths} | {line for line, _ in long_lines()}
+    long |= {text * (length // len(text)) for length in lengths for text in HOSTILE_TEXTS}
     inputs = sorted({unquoted(word) for word in words} | long)
     said = said_of(program, inputs)
     wants("the number of inputs", said.split(" ")[0], str(len(inputs)))
@@ -783,6 +788,30 @@ def check_allocations(program):
     return f"{len(lines)} lines, of which {in_line} take memory only as a command of its own"
 
 
+def instructions(program, function, *arguments):
+    """How many instructions the function and what it calls take, and how many bytes the value has that the program passes."""
+    counted = ["valgrind", "--tool=callgrind", "--callgrind-out-file=/dev/null", f"--toggle-collect={function}"]
+    run = subprocess.run([*counted, program, *arguments], capture_output=True, timeout=LIFE, encoding="utf-8")
+    collected = re.search(r"Collected : (\d+)", run.stderr)
+    if run.returncode != 0 or not collected:
+        raise Wrong(f"status {run.returncode}: {run.stdout} {run.stderr}")
+    return int(collected[1]), int(run.stdout)
+
+
+def check_shortcuts(program):
+    """A long value is searched for a CR by blocks, and one that is not ASCII is tested by blocks whether it is UTF-8, and not by std."""
+    std = "*core::str::utf8::from_utf8"
+    searched, size = instructions(program, "unftp_parameter", "parameter", "ab", "25000")
+    # a TAB makes the call search for a CR by itself
+    with_tabs, _ = instructions(program, "unftp_parameter", "parameter", "a\t", "25000")
+    tested, letters = instructions(program, std, "next", "\u00e9", "50000")
+    # so that the name is that of a function
+    ascii_tested, _ = instructions(program, std, "next", "a", "50000")
+    if not 0 < 3 * searched < 2 * with_tabs or not tested < letters // 20 < ascii_tested:
+        raise Wrong(f"of {size} bytes {searched}, with TABs {with_tabs}, of {letters} bytes {tested}, and of ASCII {ascii_tested} instructions")
+    return f"{searched} instructions over {size} bytes, and {tested} of std over {letters}"
+
+
 CHECKS = {
     "sessions": check_sessions,
     "session": check_session,
@@ -804,6 +833,7 @@ CHECKS = {
     "calls": check_calls,
     "stack": check_stack,
     "allocations": check_allocations,
+    "shortcuts": check_shortcuts,
 }
 
 

@@ -1,8 +1,12 @@
 /*
- * Measures how much memory the calls hold at once. It has to be none, and for a line of a log at
- * most three times its text and 32 bytes. Prints how many calls it made, or which held more. It is
- * linked with --wrap=malloc, --wrap=realloc and --wrap=free.
+ * Measures how much memory the calls hold at once. It has to be none; for a line of a log and an
+ * address at most three times its text and 32 bytes; and for received replies at most forty times
+ * their bytes and 100, whatever a server sends. Searches all memory that unftp_log_line asks for,
+ * also behind the end of what a buffer holds, for what a line hides. Prints how many calls it made,
+ * or which held more or held a secret. It is linked with --wrap=malloc, --wrap=realloc and
+ * --wrap=free.
  */
+#define _GNU_SOURCE
 #include <unftp_control.h>
 
 #include <malloc.h>
@@ -19,7 +23,10 @@ void *__wrap_malloc(size_t size);
 void *__wrap_realloc(void *block, size_t size);
 void __wrap_free(void *block);
 
-static size_t held, most, calls;
+/* at the end of what a line hides, which is longer than most texts of a log: it isn't written over */
+static const char SECRET[] = "s3cr3t-W0rd";
+
+static size_t held, most, calls, secrets;
 static char text[LONGEST], line[LONGEST + 10], out[ROOM];
 
 /* malloc may give up to 24 bytes more than are asked for; these are counted too. */
@@ -31,24 +38,32 @@ static void *taken(void *block)
     return block;
 }
 
+/* It is zeroed, so that nothing of a freed block is found in another. */
 void *__wrap_malloc(size_t size)
 {
-    return taken(__real_malloc(size));
-}
-
-void *__wrap_realloc(void *block, size_t size)
-{
-    /* until its bytes are copied, the old block may be there beside the new one */
-    size_t old = malloc_usable_size(block);
-    void *moved = taken(__real_realloc(block, size));
-    held -= old;
-    return moved;
+    void *block = taken(__real_malloc(size));
+    memset(block, 0, malloc_usable_size(block));
+    return block;
 }
 
 void __wrap_free(void *block)
 {
+    if (block == NULL)
+        return;
+    secrets += memmem(block, malloc_usable_size(block), SECRET, strlen(SECRET)) != NULL;
     held -= malloc_usable_size(block);
     __real_free(block);
+}
+
+/* Until its bytes are copied, the old block is there beside the new one. */
+void *__wrap_realloc(void *block, size_t size)
+{
+    size_t old = malloc_usable_size(block);
+    void *moved = __wrap_malloc(size);
+    if (block != NULL)
+        memcpy(moved, block, old < size ? old : size);
+    __wrap_free(block);
+    return moved;
 }
 
 /* A call held at most so many bytes, and holds none any more. */
@@ -92,6 +107,89 @@ static void make_calls(char byte, size_t count)
     expect("unftp_front_reply", len, 0);
 }
 
+/* Logs a line with this before and after what it hides; says in how many blocks that was. */
+static size_t logged_secrets(const char *before, const char *after)
+{
+    int size = snprintf(line, sizeof line, "%s%080d%s%s\r\n", before, 0, SECRET, after);
+    size_t len;
+
+    secrets = 0;
+    unftp_log_line(0, line, (size_t)size, out, sizeof out, &len);
+    expect("unftp_log_line", (size_t)size, 3 * len + 32);
+    return secrets;
+}
+
+/* No memory has what a line hides; that of a path has to be found, or the search finds nothing. */
+static void search_for_secrets(void)
+{
+    static const char *const LINES[][2] = {
+        {"PASS ", ""}, {"pass ", ""}, {"ACCT ", ""}, {"PASS\t", ""}, {"PASS:", ""}, {"PASS", ""},
+        {"PSAS ", ""}, {"", ""}, {"", " a"}, {" ", ""}, {"ADAT ", ""}, {"SITE PSWD ", " new"},
+        {"SITE ", ""}, {"SITE ", " a"}, {"PASS ", "\rx"}, {"", "\xff"}, {"NOOP ", ""}, {"AUTH ", ""},
+        {"REST ", ""},
+    };
+
+    for (size_t index = 0; index < sizeof LINES / sizeof *LINES; index++) {
+        if (logged_secrets(LINES[index][0], LINES[index][1]) != 0) {
+            printf("the memory of a log has what follows '%s'\n", LINES[index][0]);
+            exit(EXIT_FAILURE);
+        }
+    }
+    if (logged_secrets("RETR ", "") == 0) {
+        puts("what a log shows is not found");
+        exit(EXIT_FAILURE);
+    }
+}
+
+/* Reads replies that are these bytes, then some others so many times, and then these. */
+static void read_replies(const char *first, const char *middle, size_t count, const char *last)
+{
+    size_t size = strlen(first), len;
+
+    memcpy(text, first, size);
+    for (; count > 0 && size + strlen(middle) + strlen(last) <= sizeof text; count--) {
+        memcpy(text + size, middle, strlen(middle));
+        size += strlen(middle);
+    }
+    memcpy(text + size, last, strlen(last));
+    size += strlen(last);
+    unftp_reply_lines(text, size, out, sizeof out, &len);
+    expect("unftp_reply_lines", size, 40 * size + 100);
+    unftp_log_exchange("", 0, text, size, out, sizeof out, &len);
+    expect("unftp_log_exchange", size, 40 * size + 100);
+}
+
+/* Each line and each reply is held by itself, so those of few bytes cost most. */
+static void read_hostile_replies(void)
+{
+    for (size_t count = 0; count <= LONGEST; count = count < 300 ? count + 1 : 2 * count) {
+        read_replies("220-\r\n", "\r\n", count, "220 \r\n");
+        read_replies("220-\r\n", "a\r\n", count, "220 \r\n");
+        read_replies("220-\r\n", "\xff\r\n", count, "220 \r\n");
+        read_replies("", "220\r\n", count, "");
+        read_replies("", "220 \xff\r\n", count, "");
+    }
+}
+
+static void write_addresses(void)
+{
+    static const char IP[16] = {'\x11', '\x22', '\x33', '\x44', '\x55', '\x66', '\x77', '\x11',
+                                '\x22', '\x33', '\x44', '\x55', '\x66', '\x77', '\x11', '\x22'};
+    static const struct {
+        uint32_t form;
+        size_t ip_len;
+    } FORMS[] = {
+        {UNFTP_ADDRESS_PORT, 4},  {UNFTP_ADDRESS_227, 4}, {UNFTP_ADDRESS_EPRT, 4},
+        {UNFTP_ADDRESS_EPRT, 16}, {UNFTP_ADDRESS_229, 0},
+    };
+    size_t len;
+
+    for (size_t index = 0; index < sizeof FORMS / sizeof *FORMS; index++) {
+        unftp_write_address(FORMS[index].form, IP, FORMS[index].ip_len, 65535, out, sizeof out, &len);
+        expect("unftp_write_address", FORMS[index].ip_len, 3 * len + 32);
+    }
+}
+
 int main(void)
 {
     static const char BYTES[] = {'a', '1', '-', '"', ' ', '\n', '\r', '\0', '\x01', '\xe9'};
@@ -102,6 +200,9 @@ int main(void)
         make_calls(BYTES[index], 1000);
         make_calls(BYTES[index], LONGEST);
     }
+    search_for_secrets();
+    read_hostile_replies();
+    write_addresses();
     printf("%zu calls\n", calls);
     return EXIT_SUCCESS;
 }
