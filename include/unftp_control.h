@@ -18,8 +18,9 @@
  * - A call takes at most 8,192 bytes of stack, with what malloc of the GNU C library takes, and the
  *   dynamic linker where it is the first.
  *
- * What the library's functions return and write is proved, and so are the bounds on lengths; how
- * much stack a call takes, and that this header matches the library, are tested.
+ * What the library's functions return and write is proved, and so are the bounds on lengths, but
+ * where a comment says that one is measured; how much stack a call takes, and that this header
+ * matches the library, are tested.
  */
 #ifndef UNFTP_CONTROL_H
 #define UNFTP_CONTROL_H
@@ -415,7 +416,8 @@ enum unftp_result unftp_front_reply(const char *bytes, size_t bytes_len,
  * that follows it, and of a line between them all of it; a reply of only a code has one empty line.
  * It returns UNFTP_DONE; UNFTP_MORE or UNFTP_MALFORMED, as unftp_front_reply; UNFTP_NO_ROOM, where
  * *len is the room that is needed, at most as many bytes as the reply has; or UNFTP_OUT_OF_MEMORY.
- * out is as it was but at UNFTP_DONE.
+ * out is as it was but at UNFTP_DONE. It holds up to 40 bytes for each byte of the reply, and 100,
+ * which is measured, and not proved: bound what a server may send.
  */
 enum unftp_result unftp_reply_lines(const char *bytes, size_t bytes_len,
                                     char *out, size_t out_room, size_t *len) UNFTP_NONNULL;
@@ -503,21 +505,22 @@ uint32_t unftp_is_clear(const char *line, size_t line_len) UNFTP_NONNULL;
  * 7151), with *** for its arguments, also where there are none. Of SITE the subcommands CHMOD,
  * IDLE, MD5, UMASK and UTIME are shown with their arguments, EXEC, GPASS, GROUP, HELP and PSWD with
  * ***, and any other is ***.
- * The name of USER and paths are shown, and so is a password that a client sends in their place, or
- * one that is itself a verb.
+ * The name of USER, paths and what follows TYPE, EPSV and ALLO are shown, whatever they are, and so
+ * is a password that a client sends in their place, or one that is itself a verb.
  *
  * A refused line is `refused`, a space and its verb where that has a rule here or is such a word,
- * `: `, and why; nothing is shown of its parameter. Why is one of `Invalid command`, `Non-UTF8
- * character while parsing`, `Invalid end-of-line` and `Line too long`. The last one comes by the
- * number UNFTP_LINE_TOO_LONG, and without a verb. At any other number the line is read anew, and
- * the number says nothing more.
+ * `: `, and why; nothing is shown of its parameter but that. Why is one of `Invalid command`,
+ * `Non-UTF8 character while parsing`, `Invalid end-of-line` and `Line too long`. So a log shows of
+ * a password that it has an invalid line ending, as that of "PASS se\rcret\r\n" has. The last one
+ * comes by the number UNFTP_LINE_TOO_LONG, and without a verb. At any other number the line is read
+ * anew, and the number says nothing more.
  *
  * It returns UNFTP_DONE; UNFTP_NO_ROOM, where *len is the room that is needed; or
  * UNFTP_OUT_OF_MEMORY. out is as it was but at UNFTP_DONE. A line of n bytes needs at most 4 n +
- * 42. Memory is taken only for the text that is written, at most three times its bytes and 32; this
- * is tested, and not proved. A server that has no such room must not drop the line, or a client
- * could keep itself out of the log: it takes the room that *len asks for, or logs that there was a
- * line.
+ * 42. Memory is taken only for the text that is written: at most three times its bytes and 32 are
+ * held at once, which is measured, and not proved. A server that has no such room must not drop the
+ * line, or a client could keep itself out of the log: it takes the room that *len asks for, or logs
+ * that there was a line.
  */
 enum unftp_result unftp_log_line(uint32_t number, const char *line, size_t line_len,
                                  char *out, size_t out_room, size_t *len) UNFTP_NONNULL;
@@ -544,8 +547,10 @@ enum unftp_result unftp_log_line(uint32_t number, const char *line, size_t line_
  * It returns UNFTP_DONE; UNFTP_INVALID_ARGUMENT exactly where a byte of shown is no printable ASCII
  * (0x20 to 0x7e), so that each byte that is written is; or else UNFTP_MORE where the last reply is
  * incomplete, or UNFTP_MALFORMED where a reply is malformed; or else UNFTP_NO_ROOM, where *len is
- * the room that is needed. UNFTP_OUT_OF_MEMORY may come in place of all but UNFTP_INVALID_ARGUMENT.
- * out is as it was but at UNFTP_DONE. It needs at most shown_len + 4 replies_len + 3.
+ * the room that is needed. UNFTP_OUT_OF_MEMORY comes only in place of UNFTP_DONE and UNFTP_NO_ROOM.
+ * out is as it was but at UNFTP_DONE. It needs at most shown_len + 4 replies_len + 3. It holds up
+ * to 40 bytes for each byte of shown and of the replies, and 100, which is measured, and not
+ * proved: bound what a server may send.
  */
 enum unftp_result unftp_log_exchange(const char *shown, size_t shown_len,
                                      const char *replies, size_t replies_len,

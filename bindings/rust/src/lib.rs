@@ -1,7 +1,8 @@
 //! The control protocol layer of an FTP server: bytes of a control connection become typed commands
 //! or named refusals, and replies become bytes (RFC 959). The work is done by calls that are proved
 //! for all inputs, whose machine code the crate has with it; this crate makes them safe and typed.
-//! By itself it only tests whether a few new bytes have a line feed.
+//! By itself it searches a few new bytes for a line feed, before a call searches them again; finds
+//! where the lines of received replies end; and cuts replies and texts into lines.
 //!
 //! It is a layer and no server: sockets, TLS, data connections, storage and accounts are the
 //! caller's.

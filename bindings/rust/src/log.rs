@@ -28,12 +28,14 @@ use crate::ffi;
 /// A verb with no rule of its own may be a mistyped PASS, or a password: it is `***`, unless it is a
 /// word of the registry of FTP's commands (RFC 5797, section 3), ALGS (RFC 6384) or HOST (RFC 7151),
 /// with `***` for its arguments, also where there are none. So it is with the subcommands of SITE,
-/// but that CHMOD, IDLE, MD5, UMASK and UTIME show their arguments. The name of USER and paths are
-/// shown, and so is a password that a client sends in their place, or one that is itself a verb.
+/// but that CHMOD, IDLE, MD5, UMASK and UTIME show their arguments. The name of USER, paths and what
+/// follows TYPE, EPSV and ALLO are shown, and so is a password that a client sends in their place,
+/// or one that is itself a verb.
 ///
 /// A refused line is `refused`, its verb where that has a rule or is such a word, and why:
 /// `Invalid command`, `Non-UTF8 character while parsing`, `Invalid end-of-line`, or without a verb
-/// `Line too long`. Nothing is shown of its parameter.
+/// `Line too long`. So a log shows of a password that it has an invalid line ending, and nothing
+/// else of the parameter of a refused line.
 ///
 /// ```
 /// use unftp_control::{log_line, Pending};
