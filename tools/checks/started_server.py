@@ -12,8 +12,8 @@ import sys
 import time
 
 HOST = "127.0.0.1"
-# how many seconds a server may run, and how long it and a client may take to answer
-LIFE, PATIENCE = 60, 10
+# how many seconds a server may run, and how long it and a client may take to answer: ways out where nothing happens, and no measure of anything
+LIFE, PATIENCE = 600, 60
 # how many bytes are sent at a time, by turns
 PIECES = [1, 61, 3, 1021, 7, 509]
 GREETING = b"220 Ready\r\n"
@@ -33,7 +33,7 @@ class StartedServer:
     hands each signal on to it."""
 
     def __init__(self, command, errors=None):
-        limited = ["timeout", "--foreground", "--kill-after=5", str(LIFE), *command]
+        limited = ["timeout", "--foreground", f"--kill-after={PATIENCE}", str(LIFE), *command]
         self.process = subprocess.Popen(limited, stdout=subprocess.PIPE, stderr=errors, start_new_session=True)
 
     def __enter__(self):

@@ -15,9 +15,9 @@ import unittest
 
 from peers import HOST, HOST6, Place, start_command, start_peer
 
-LIFE = 30
-# how many seconds a test of Twisted may take
-PATIENCE = 5
+LIFE = 600
+# how many seconds a test of Twisted may take, also on a busy machine
+PATIENCE = 60
 
 
 class Server:

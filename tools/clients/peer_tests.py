@@ -12,7 +12,7 @@ import time
 
 from peers import HOST, PATIENCE, NoServer, Place, start_command, start_peer
 
-LIFE = 60
+LIFE = 600
 # the directives that ask for nothing that a server wouldn't do
 PLAIN = set("""AllowOverride AllowOverwrite AllowRetrieveRestart AllowStoreRestart AuthGroupFile AuthOrder AuthUserFile DebugLevel DefaultAddress
     DefaultRoot DefaultServer DelayEngine Group MaxInstances PidFile Port RequireValidShell ScoreboardFile ServerType SystemLog TimeoutIdle

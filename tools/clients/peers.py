@@ -18,8 +18,8 @@ from typing import NamedTuple
 
 HOST, HOST6 = "127.0.0.1", "::1"
 USER, PASSWORD = "anna", "secret"
-# how long a server may take until it listens
-PATIENCE = 20
+# how long a server may take until it listens, also on a busy machine
+PATIENCE = 60
 # how many clients at a time a server has to serve
 CLIENTS = 500
 # where the programs are that are not on the path
@@ -259,7 +259,7 @@ class Process:
         """Waits until it listens on a port."""
         deadline = time.monotonic() + PATIENCE
         while time.monotonic() < deadline and self.process.poll() is None:
-            with contextlib.suppress(OSError), socket.create_connection((host, port), 1) as connection:
+            with contextlib.suppress(OSError), socket.create_connection((host, port), PATIENCE) as connection:
                 connection.recv(1)
                 return
             time.sleep(0.05)

@@ -13,7 +13,7 @@ use Net::Cmd;
 use Test::Unit::TestCase;
 
 my ($module, $user, $password, $pattern) = @ARGV;
-my $limit = 40;
+my $limit = 400;
 my $is_own = $user eq 'proftpd';
 my $home = qr{/[^ ]*?/proftpd-test-\d+-test\d+-\w{10}};
 
@@ -61,7 +61,7 @@ eval "require $module" or die $@;
     my $connect = \&ProFTPD::TestSuite::FTP::new;
     *ProFTPD::TestSuite::FTP::new = sub {
         my ($class, $address, $port, $active, $patience, $command_patience) = @_;
-        return $connect->($class, $address, $port, $active, 10, $command_patience // $patience);
+        return $connect->($class, $address, $port, $active, 60, $command_patience // $patience);
     };
 }
 

@@ -29,7 +29,7 @@ The server's options are those of tools/clients/transfers. With --against NAME, 
 is the median of the rounds, and the last column is the first server's part of the second one's. The folder is on the disk of TMPDIR.
 """
 
-LIMIT = 60
+LIMIT = 300
 MEGABYTE = 1_000_000
 CLIENTS, FILES = 100, 5
 AT_ONCE = 20
