@@ -24,6 +24,7 @@ import io
 import os
 import pathlib
 import re
+import select
 import signal
 import socket
 import subprocess
@@ -32,8 +33,8 @@ import tempfile
 import threading
 import time
 
-from started_server import (GREETING, HOST, PATIENCE, StartedServer, Wrong, has_ipv6, processor_time, receive, run_check, send_pieces, wants,
-                            without_descriptors)
+from started_server import (GREETING, HOST, PATIENCE, StartedServer, Wrong, has_ipv6, processor_time, receive, run_check, send_pieces, stays,
+                            wait_until, wants, without_descriptors)
 
 TOP = pathlib.Path(__file__).resolve().parents[2]
 LINE_LIMIT = 8192
@@ -246,18 +247,26 @@ def check_late(program):
 
 def check_idle(program):
     late, idle = b"421 Idle too long\r\n", 2
+
+    def ask(busy):
+        busy.sendall(b"NOOP\r\n")
+        wants("a client that is not idle", receive(busy, len(OK)), OK)
+
+    def is_answered(slow):
+        slow.sendall(b"N")
+        return select.select([slow], [], [], 0.2)[0]
+
     with started(program, idle) as server:
         begun = time.monotonic()
-        with server.greeted() as silent, server.greeted() as slow, server.greeted() as busy:
-            while time.monotonic() < begun + 2 * idle:
-                busy.sendall(b"NOOP\r\n")
-                wants("a client that is not idle", receive(busy, len(OK)), OK)
-                if time.monotonic() < begun + idle / 2:
-                    slow.sendall(b"N")
-                time.sleep(0.2)
+        with server.greeted() as silent, server.greeted() as slow:
+            wait_until("the end of a client that sends a part of a line", lambda: is_answered(slow))
             wants("a client that sends a part of a line", receive(slow), late)
             wants("a client that sends nothing", receive(silent), late)
-    return "3 clients"
+        wants("whether a part of a line had its time", time.monotonic() - begun >= idle, True)
+        with server.greeted() as silent:
+            stays(server.greeted, ask, idle)
+            wants("a client that sends nothing beside another", receive(silent), late)
+    return "4 clients"
 
 
 def check_limit(program):
@@ -268,12 +277,13 @@ def check_limit(program):
                 wants("the third connection", receive(third), full)
             first.sendall(b"NOOP\r\nQUIT\r\n")
             wants("the first connection beside it", receive(first), OK + BYE)
-        deadline = time.monotonic() + PATIENCE
-        while time.monotonic() < deadline:
+
+        def is_served():
             with server.connect() as another:
-                if receive(another, len(GREETING)) == GREETING:
-                    return "3 connections, and another in the place of the first"
-    raise Wrong("no connection is taken in the place of one that ended")
+                return receive(another, len(GREETING)) == GREETING
+
+        wait_until("a connection in the place of one that ended", is_served)
+    return "3 connections, and another in the place of the first"
 
 
 def check_stop(program):

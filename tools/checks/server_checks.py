@@ -20,6 +20,7 @@ usage: tools/checks/server_checks.py addresses SERVER          an IPv4 and an IP
 The last line says what was compared; the status is 0 where all is right.
 """
 
+import contextlib
 import ftplib
 import os
 import pathlib
@@ -33,7 +34,7 @@ import threading
 import time
 
 from embedding import REPLIES, Server
-from started_server import GREETING, HOST, PATIENCE, Wrong, processor_time, receive, run_check, wants
+from started_server import GREETING, HOST, LIFE, PATIENCE, Wrong, processor_time, receive, run_check, stays, wait_until, wants
 
 NOOP, QUIT = b"NOOP\r\n", b"QUIT\r\n"
 OKAY, BYE = REPLIES["Noop"], REPLIES["Quit"]
@@ -60,19 +61,19 @@ def asked(connection, line=NOOP, reply=OKAY):
     wants(f"the reply to {line!r}", receive(connection, len(reply)), reply)
 
 
-def within(what, least, most, call):
-    """Calls, which has to take so many seconds at least and at most."""
+def lasts(what, least, call):
+    """Calls, which has to take so many seconds at least. The call itself says how long it may take at most."""
     start = time.monotonic()
     call()
     took = time.monotonic() - start
-    if not least <= took <= most:
-        raise Wrong(f"{what} took {took:.1f} seconds, and not {least} to {most}")
+    if took < least:
+        raise Wrong(f"{what} took {took:.3f} seconds, and not {least}")
 
 
-def until_refused(connection, piece, pause=0.0, most=PATIENCE):
+def until_refused(connection, piece, pause=0.0):
     """Sends the piece again and again until the connection is closed: how many bytes it took."""
     sent = 0
-    deadline = time.monotonic() + most
+    deadline = time.monotonic() + PATIENCE
     try:
         while time.monotonic() < deadline:
             sent += connection.send(piece)
@@ -156,7 +157,8 @@ def check_descriptors(program):
         opened = len(os.listdir(f"/proc/{server.pid}/fd"))
         resource.prlimit(server.pid, resource.RLIMIT_NOFILE, (opened, before[1]))
         taken = processor_time(server.pid)
-        with socket.create_connection((HOST, server.port), 1) as waiting:
+        with server.connect() as waiting:
+            waiting.settimeout(1)
             try:
                 raise Wrong(f"a client has {waiting.recv(1)!r} where no descriptor is left")
             except TimeoutError:
@@ -195,13 +197,12 @@ def check_fork(preload, program):
 
 def connected_in_time(server):
     """A connection, once the server has counted out those that have ended."""
-    deadline = time.monotonic() + PATIENCE
-    while time.monotonic() < deadline:
-        try:
+
+    def greeted():
+        with contextlib.suppress(Wrong):
             return server.greeted()
-        except Wrong:
-            time.sleep(0.01)
-    raise Wrong("no client is served after those that have ended")
+
+    return wait_until("a client that is served after those that have ended", greeted)
 
 
 def children(pid):
@@ -218,12 +219,8 @@ def children(pid):
 
 def wants_children(pid, count):
     """A process has so many children, after a while at least."""
-    deadline = time.monotonic() + PATIENCE
-    while len(children(pid)) != count and time.monotonic() < deadline:
-        time.sleep(0.05)
-    found = children(pid)
-    wants("the number of children", len(found), count)
-    return found
+    wait_until(f"{count} children", lambda: len(children(pid)) == count)
+    return children(pid)
 
 
 def come_and_go(server, count):
@@ -256,31 +253,35 @@ def check_idle(program):
 
         def silent():
             with server.greeted() as connection:
-                within("a silent client", 1.5, 8, lambda: wants("a silent client", all_of(connection), TIMEOUT))
+                wants("a silent client", all_of(connection), TIMEOUT)
 
         def slow():
             with server.greeted() as connection:
-                within("a slow client", 1.5, 8, lambda: until_refused(connection, b"N", 0.1))
+                until_refused(connection, b"N", 0.1)
                 wants("a slow client", receive(connection, len(TIMEOUT)), TIMEOUT)
 
         def endless():
             with server.greeted() as connection:
-                within("a line without an end", 1.5, 8, lambda: until_refused(connection, b"N" * 4096, 0.001))
+                until_refused(connection, b"N" * 4096, 0.001)
 
-        def busy():
-            with server.greeted() as connection:
-                for _ in range(6):
-                    time.sleep(0.5)
-                    asked(connection)
-
-        side_by_side(silent, slow, endless, busy)
+        side_by_side(
+            lambda: lasts("a silent client", 1.9, silent),
+            lambda: lasts("a slow client", 1.9, slow),
+            lambda: lasts("a line without an end", 1.9, endless),
+            lambda: stays(server.greeted, asked, 2),
+        )
     return "421 for a silent client, and for one that sends a line byte by byte; not for one that sends commands"
 
 
 def check_unread(program):
     """A client that sends commands and doesn't read is ended too."""
-    with Server([program, "-i", "1"]) as server, server.greeted() as connection:
-        within("a client that doesn't read", 0.5, 10, lambda: until_refused(connection, b"HELP\r\n" * 1000))
+    with Server([program, "-i", "2"]) as server:
+
+        def unread():
+            with server.greeted() as connection:
+                until_refused(connection, b"HELP\r\n" * 1000)
+
+        lasts("a client that doesn't read", 1.9, unread)
         with server.greeted() as other:
             asked(other)
     return "a client that doesn't read is ended"
@@ -289,7 +290,7 @@ def check_unread(program):
 def check_late(program):
     """Each can go on sending after QUIT, and then reads the last reply and the end."""
     size = len(LATE) // TIMES
-    with Server([program]) as server:
+    with Server([program, "-d", str(PATIENCE)]) as server:
         endings = []
         for _ in range(IMPATIENT):
             with server.greeted() as connection:
@@ -304,13 +305,18 @@ def check_late(program):
 
 def check_staying(program):
     """After QUIT the server's side is at its end at once. What is dropped then has a bound in seconds and one in bytes."""
-    with Server([program, "-d", "2"]) as server, server.greeted() as staying:
+    with Server([program, "-d", str(LIFE)]) as server, server.greeted() as staying:
         asked(staying, QUIT, BYE)
-        within("the end of the server's side", 0, 1.5, lambda: wants("what comes after 221", all_of(staying), b""))
-        within("a client that stays", 0.5, 6, lambda: until_refused(staying, b"x", 0.1))
-    with Server([program, "-d", "60"]) as server, server.greeted() as endless:
-        endless.sendall(QUIT)
-        sent = until_refused(endless, b"x" * 65536)
+        wants("what comes after 221", all_of(staying), b"")
+        sent = until_refused(staying, b"x" * 65536)
+    with Server([program, "-d", "2"]) as server:
+
+        def stay():
+            with server.greeted() as staying:
+                asked(staying, QUIT, BYE)
+                until_refused(staying, b"x", 0.1)
+
+        lasts("a client that stays", 1.9, stay)
     return f"a client that stays is ended in time, and one that sends for ever after {sent} bytes"
 
 
@@ -320,10 +326,11 @@ def check_gone(program):
         for _ in range(IMPATIENT):
             with socket.socket() as connection:
                 connection.setsockopt(socket.SOL_SOCKET, socket.SO_RCVBUF, 4096)
+                connection.settimeout(PATIENCE)
                 connection.connect((HOST, server.port))
                 connection.sendall(b"HELP\r\n" * 10_000)
                 connection.shutdown(socket.SHUT_WR)
-                time.sleep(0.02)
+                wants("how many bytes come", len(receive(connection, len(GREETING) + 1)), len(GREETING) + 1)
         with server.greeted() as connection:
             asked(connection)
     return f"{IMPATIENT} clients are gone, and the next is served"
@@ -343,13 +350,16 @@ def check_killed(program):
 
 def check_children(program):
     """The program had children before it was this server. One ends, which takes off no session; the server doesn't wait for the other."""
-    with Server(["sh", "-c", 'sleep 1 & sleep 20 & exec "$@"', "sh", program, "-c", "1"]) as server:
+    sleeps = f'sleep {LIFE} & sleep {LIFE} & exec "$@"'
+    with Server(["sh", "-c", sleeps, "sh", program, "-c", "1"]) as server:
+        sleeping = wants_children(server.pid, 2)
         with server.greeted() as connection:
+            os.kill(sleeping[0], signal.SIGKILL)
             wants_children(server.pid, 2)
             with server.greeted(TOO_MANY) as second:
                 wants("the end", all_of(second), b"")
             asked(connection, QUIT, BYE)
-        within("the server's end", 0, 5, lambda: wants("the server's end", server.stop(), (0, b"")))
+        wants("the server's end", server.stop(), (0, b""))
     return "children that are no sessions are not counted"
 
 
@@ -363,7 +373,7 @@ def check_stop(program):
                 os.kill(server.pid, number)
                 server.status, _ = server.stop()  # as `timeout` reports it
             else:
-                within("the server's end", 0.5, 5, lambda: wants("the server's end", server.stop(number), (0, b"")))
+                lasts("the server's end", 0.9, lambda: wants("the server's end", server.stop(number), (0, b"")))
             wants("what the clients get", [all_of(idle), all_of(midst)], [STOPPING] * 2)
             try:
                 server.greeted()
@@ -376,16 +386,16 @@ def check_stop(program):
 def check_twice(program):
     """While the sessions end, another signal ends the server at once. They go on dropping what comes, and then end too."""
     for number in [signal.SIGTERM, signal.SIGINT, signal.SIGHUP]:
-        with Server([program, "-d", "3"]) as server, server.greeted() as staying:
+        with Server([program, "-d", str(LIFE)]) as server, server.greeted() as staying:
             session = wants_children(server.pid, 1)[0]
             os.kill(server.pid, signal.SIGTERM)
             wants("what the client gets", all_of(staying), STOPPING)
             os.kill(server.pid, number)
-            within("the server's end", 0, 1.5, lambda: server.process.wait(PATIENCE))
+            server.process.wait(PATIENCE)
             wants("the session goes on", pathlib.Path(f"/proc/{session}").exists(), True)
             server.status, _ = server.stop()  # as `timeout` reports it
             wants("whether the server ended well", server.status == 0, False)
-            until_refused(staying, b"x", 0.1)
+            until_refused(staying, b"x" * 65536)
     return "a second SIGTERM, SIGINT or SIGHUP ends the server at once"
 
 

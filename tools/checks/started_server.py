@@ -1,4 +1,5 @@
-"""A server that a check starts, what a client of it does, and how a check is run."""
+"""A server that a check starts, what a client of it does, and how a check is run. On a busy machine all takes longer: a check waits for what
+happens, and fails where it never does."""
 
 import contextlib
 import inspect
@@ -80,6 +81,34 @@ def send_pieces(connection, sent, size=None):
         turn += 1
 
 
+def wait_until(what, call):
+    """Waits until the call returns what is true, and returns that."""
+    deadline = time.monotonic() + PATIENCE
+    while not (found := call()):
+        if time.monotonic() > deadline:
+            raise Wrong(f"{what}: not within {PATIENCE} seconds")
+        time.sleep(0.01)
+    return found
+
+
+def stays(connect, ask, idle):
+    """A client that asks again and again stays connected for twice as long as it may be idle. Where it was late itself, which shows nothing, it
+    begins again."""
+    deadline = time.monotonic() + PATIENCE
+    while True:
+        asked = [time.monotonic()]
+        with connect() as connection:
+            try:
+                while asked[-1] < asked[0] + 2 * idle:
+                    asked.append(time.monotonic())
+                    ask(connection)
+                    time.sleep(0.1)
+                return
+            except (Wrong, OSError):
+                if not asked[-2] + idle < time.monotonic() < deadline:
+                    raise
+
+
 def has_ipv6():
     """Whether the machine has the loopback address of IPv6."""
     try:
@@ -95,12 +124,21 @@ def processor_time(pid):
     return (int(fields[11]) + int(fields[12])) / os.sysconf("SC_CLK_TCK")
 
 
+def is_asleep(pid):
+    """Whether no thread of a process would run if it had a processor."""
+    try:
+        states = [path.read_text(encoding="ascii").rpartition(")")[2].split()[0] for path in pathlib.Path(f"/proc/{pid}/task").glob("*/stat")]
+    except (FileNotFoundError, ProcessLookupError):  # a thread has ended just now
+        return False
+    return set(states) == {"S"}
+
+
 def open_descriptors(pid):
-    """How many descriptors a process has open, once the number stays the same for a while."""
+    """How many descriptors a process has open, once the number stays the same for a while in which it sleeps."""
     found = []
     while len(found) < 5 or len(set(found[-5:])) > 1:
         time.sleep(0.05)
-        found.append(len(os.listdir(f"/proc/{pid}/fd")))
+        found = [*found, len(os.listdir(f"/proc/{pid}/fd"))] if is_asleep(pid) else []
     return found[-1]
 
 
