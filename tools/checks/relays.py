@@ -34,7 +34,7 @@ import threading
 import time
 
 from downloads import LARGE, PASSWORD, RealServer, USER
-from started_server import GREETING, HOST, PATIENCE, StartedServer, Wrong, processor_time, receive, run_check, send_pieces, wants
+from started_server import GREETING, HOST, PATIENCE, StartedServer, Wrong, processor_time, receive, run_check, send_pieces, wait_until, wants
 
 LINE_LIMIT, REPLY_LIMIT, SESSIONS_MOST = 2048, 65536, 100
 OKAY, BYE = b"200 OK\r\n", b"221 Bye\r\n"
@@ -82,11 +82,7 @@ class Relay(StartedServer):
         return [SAID.fullmatch(line)[1] for line in lines]
 
     def wait_for_sessions(self):
-        deadline = time.monotonic() + PATIENCE
-        while sessions_of(self.pid):
-            if time.monotonic() > deadline:
-                raise Wrong("a session goes on without its client")
-            time.sleep(0.01)
+        wait_until("the end of a session without its client", lambda: not sessions_of(self.pid))
 
     def __exit__(self, kind, *rest):
         try:
@@ -542,22 +538,22 @@ def check_pressure(*program):
 
 def check_idle(*program):
     """A client that says nothing is told so, but not one whose transfer takes long."""
-    with listening(program, "-i", "1") as (connect, _):
+    with listening(program, "-i", "2") as (connect, _):
         begun = time.monotonic()
         with connect() as silent, connect() as idle:
             idle.greet()
             silent.client_ends_with(TIMEOUT)
             idle.client_ends_with(TIMEOUT)
         took = time.monotonic() - begun
-        if not 0.9 <= took <= 4:
-            raise Wrong(f"the limit of a second took {took:.1f} seconds")
+        if took < 2:
+            raise Wrong(f"the limit of two seconds took {took:.3f} seconds")
         with connect() as ends:
             ends.greet()
             ends.client.sendall(b"RETR a\r\n")
             ends.server_gets(b"RETR a\r\n")
             ends.server.sendall(b"150 Here\r\n")
             ends.client_gets(b"150 Here\r\n")
-            time.sleep(2)
+            time.sleep(3)
             ends.server.sendall(b"226 Done\r\n")
             ends.client_gets(b"226 Done\r\n")
             ends.client_ends_with(TIMEOUT)
