@@ -263,8 +263,9 @@ class Lftp(Client):
         self.lftp(f"pget -n 4 {word(remote)} -o {word(local)}")
 
     def abort_get(self, big, small, local):
-        lines = ["set net:limit-rate 1000000", f"get {word(big)} -o {word(local + '.part')} &", "sleep 1", "kill all", "set net:limit-rate 0"]
-        self.lftp(*lines, f"get {word(small)} -o {word(local)}")
+        part = word(local + ".part")
+        lines = ["set net:limit-rate 1000000", f"get {word(big)} -o {part} &", f"!until [ -s {part} ]; do sleep 0.1; done", "kill all"]
+        self.lftp(*lines, "set net:limit-rate 0", f"get {word(small)} -o {word(local)}")
         if not re.search("^---> .*ABOR", self.written, re.M):
             raise Wrong("it sends no ABOR")
 
