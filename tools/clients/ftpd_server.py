@@ -11,10 +11,9 @@ import ssl
 import subprocess
 import sys
 import tempfile
-import time
 
 sys.path.append(str(pathlib.Path(__file__).resolve().parents[1] / "checks"))
-from started_server import HOST, PATIENCE, StartedServer, Wrong, has_ipv6, wants
+from started_server import HOST, LIFE, PATIENCE, StartedServer, Wrong, has_ipv6, wait_until, wants
 
 USER, READER, PASSWORD = "anna", "ben", "secret"
 SECRET = b"outside"
@@ -188,8 +187,4 @@ def child(server):
 
 def until_logged(server, words, count):
     """Waits until the log has these words so often."""
-    deadline = time.monotonic() + PATIENCE
-    while server.logged().count(words) < count:
-        if time.monotonic() > deadline:
-            raise Wrong(f"the log doesn't have {words!r} {count} times")
-        time.sleep(0.01)
+    wait_until(f"{words!r} {count} times in the log", lambda: server.logged().count(words) >= count)

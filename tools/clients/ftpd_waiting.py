@@ -5,9 +5,8 @@ import shutil
 import socket
 import subprocess
 import tempfile
-import time
 
-from ftpd_server import HOST, PATIENCE, Server, wants
+from ftpd_server import HOST, PATIENCE, Server, wait_until, wants
 
 SLOW = pathlib.Path(__file__).with_name("slow_files.c")
 
@@ -19,19 +18,21 @@ def check_slow_files(program):
     with tempfile.TemporaryDirectory(prefix="ftpd-slow-") as place:
         library = f"{place}/slow.so"
         subprocess.run(["cc", "-shared", "-fPIC", "-o", library, SLOW], timeout=PATIENCE, check=True)
-        with Server(program, command=["env", f"LD_PRELOAD={library}"]) as server, server.login() as waiting, server.login() as other:
+        held, begun = pathlib.Path(place, "held"), pathlib.Path(place, "begun")
+        command = ["env", f"LD_PRELOAD={library}", f"SLOW_WHILE={held}", f"SLOW_BEGUN={begun}"]
+        with Server(program, command=command) as server, server.login() as waiting, server.login() as other:
             (server.folder / "slow").write_bytes(b"content")
             (server.folder / "file").write_bytes(b"content")
             other.get("RETR file")
             for line in ["RETR slow", "SIZE slow", "MLST slow", "STOR slow"]:
                 port = waiting.passive()
+                begun.unlink(missing_ok=True)
+                held.touch()
                 waiting.send(line)
-                time.sleep(0.1)
-                begun = time.monotonic()
+                wait_until(f"the file of {line}", begun.exists)
                 other.wants("NOOP", 200)
                 wants("the file of another", other.get("RETR file"), b"content")
-                taken = time.monotonic() - begun
-                wants(f"whether another waits {taken:.1f} seconds for {line}", taken > 2, False)
+                held.unlink()
                 code, _ = waiting.reply()
                 if code == 150:
                     socket.create_connection((HOST, port), PATIENCE).close()

@@ -1,5 +1,6 @@
-/* Stands for a file system whose server is away: loaded before the libc, it lets each open of a file take seconds whose path has "slow" in it, and
-   so each look at such a file's facts. An open by O_PATH takes no time: the kernel has the name. The type of each file system is that of NFS. */
+/* Stands for a file system whose server is away: loaded before the libc, it lets each open of a file wait whose path has "slow" in it, and so each
+   look at such a file's facts, for as long as there is the file that SLOW_WHILE names. Before that it makes the file that SLOW_BEGUN names. An open
+   by O_PATH takes no time: the kernel has the name. The type of each file system is that of NFS. */
 #define _GNU_SOURCE
 #include <dlfcn.h>
 #include <errno.h>
@@ -7,13 +8,21 @@
 #include <linux/openat2.h>
 #include <stdarg.h>
 #include <stdio.h>
+#include <stdlib.h>
 #include <string.h>
 #include <sys/stat.h>
 #include <sys/syscall.h>
 #include <sys/vfs.h>
 #include <unistd.h>
 
-enum { SECONDS = 4, NFS = 0x6969 };
+enum { NFS = 0x6969, MICROSECONDS = 10000 };
+
+static void wait_for_server(void)
+{
+    close(open(getenv("SLOW_BEGUN"), O_CREAT | O_WRONLY, 0600));
+    while (access(getenv("SLOW_WHILE"), F_OK) == 0)
+        usleep(MICROSECONDS);
+}
 
 long syscall(long number, ...)
 {
@@ -28,7 +37,7 @@ long syscall(long number, ...)
     if (number == SYS_openat2) {
         const struct open_how *how = (const struct open_how *)words[2];
         if (!(how->flags & O_PATH) && strstr((const char *)words[1], "slow"))
-            sleep(SECONDS);
+            wait_for_server();
     }
     if (!next)
         next = (long (*)(long, ...))dlsym(RTLD_NEXT, "syscall");
@@ -44,7 +53,7 @@ static int look(const char *name, int file, void *facts)
     ssize_t length = readlink(link, path, sizeof path - 1);
     path[length < 0 ? 0 : length] = 0;
     if (strstr(path, "slow"))
-        sleep(SECONDS);
+        wait_for_server();
     return next(file, facts);
 }
 
