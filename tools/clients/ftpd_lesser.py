@@ -3,7 +3,7 @@
 import contextlib
 import time
 
-from ftpd_server import LARGE, PASSWORD, USER, Server, certificate, make_file, read_all, tls_context, wants
+from ftpd_server import LARGE, PASSWORD, PATIENCE, USER, Server, certificate, make_file, read_all, tls_context, wants
 
 
 def check_foreign(program):
@@ -29,16 +29,17 @@ def check_foreign(program):
 
 
 def check_trickle(program):
-    """An upload of a byte now and then ends."""
-    with Server(program, "--stall", 1) as server, server.login() as control:
+    """An upload of a byte now and then ends, after five times the seconds in which it may stand still."""
+    with Server(program, "--stall", 2) as server, server.login() as control:
         with control.open_data() as data:
-            control.wants("STOR file", 150)
             begun = time.monotonic()
+            control.wants("STOR file", 150)
             with contextlib.suppress(ConnectionError):
-                while time.monotonic() - begun < 9:
+                while time.monotonic() < begun + PATIENCE:
                     data.sendall(b"x")
-                    time.sleep(0.5)
-            wants("whether it ended", 4 < time.monotonic() - begun < 8.5, True)
+                    time.sleep(0.1)
+            taken = time.monotonic() - begun
+            wants(f"whether it ended by itself, and not too soon, in {taken:.1f} seconds", 10 <= taken < PATIENCE, True)
             wants("the end of STOR", control.reply()[0], 426)
 
 

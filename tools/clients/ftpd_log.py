@@ -6,7 +6,7 @@ import os
 import pathlib
 import re
 
-from ftpd_server import HOST, LARGE, PASSWORD, USER, Server, Wrong, certificate, has_ipv6, make_file, read_all, tls_context, until_logged, wants
+from ftpd_server import HOST, LARGE, LIFE, PASSWORD, USER, Server, Wrong, certificate, has_ipv6, make_file, read_all, tls_context, until_logged, wants
 
 PAGE = pathlib.Path(__file__).resolve().parents[2] / "docs" / "PROGRAMS.md"
 # a line of the log as text
@@ -60,7 +60,7 @@ def check_logged_transfers(program):
         until_logged(server, ": transfer ", 8)
         found = entries(server, "transfer")
         wants("who did it", {shown(entry, "user", "address") for entry in found}, {(f'"{USER}"', HOST)})
-        wants("whether the seconds are numbers", all(0 <= float(entry[1]["seconds"]) < 10 for entry in found), True)
+        wants("whether the seconds are numbers", all(0 <= float(entry[1]["seconds"]) < LIFE for entry in found), True)
         wants("the first ones", [shown(entry, "verb", "path", "bytes", "result") for entry in found[:5]], [
             ("STOR", r'"/a \"b\""', "7", '"ok"'),
             ("RETR", r'"/a \"b\""', "7", '"ok"'),
