@@ -8,9 +8,10 @@ import socket
 import ssl
 import subprocess
 import tempfile
+import time
 
 from proxy_session import (GREETING, HOST, PATIENCE, QUIET, REFUSED, WAYS, Program, Session, begin, certificate, held, is_closed, is_reset, passive,
-                           program_of, receive, received_soon, until_logged, wants)
+                           program_of, receive, until_logged, wants)
 
 FEATURES = b"211-Features:\r\n AUTH SSL\r\n\tAUTH TLS\r\n EPSV\r\n LPRT\r\n PBSZ\r\n PROT C;P\r\n UTF8\r\n211 End\r\n"
 
@@ -338,8 +339,8 @@ def check_other_authorities(proxy, _):
 
 
 def check_abort_protected(proxy, _):
-    """ABOR of a transfer ends the data connection of a server under TLS, which has no urgent data, unless the server answers it: some only look at
-    lines after a transfer."""
+    """ABOR of a transfer ends the data connection of a server under TLS, which has no urgent data, after a second, unless the server answers it: some
+    only look at lines after a transfer."""
     with tempfile.TemporaryDirectory() as folder:
         own = certificate(folder)
         with Protected([proxy, "--server-tls", "--server-ca", own[0]], own, HOST) as session:
@@ -347,10 +348,11 @@ def check_abort_protected(proxy, _):
                 with passive(session) as (client, server):
                     begin(session, line)
                     with session.secured.wrap_socket(server, server_side=True) as server:
+                        begun = time.monotonic()
                         session.client.sendall(b"ABOR\r\n")
                         session.reaches(b"ABOR\r\n")
-                        wants("whether it is still open", received_soon(client), None)
                         wants("whether both ends are closed", (is_closed(client), is_closed(server)), (True, True))
+                        wants("whether the server had its time", time.monotonic() - begun >= 1, True)
                 session.server.sendall(b"426 Aborted\r\n225 Nothing\r\n")
                 session.gets(b"426 Aborted\r\n225 Nothing\r\n")
 

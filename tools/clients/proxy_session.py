@@ -11,7 +11,7 @@ import tempfile
 import time
 
 sys.path.append(str(pathlib.Path(__file__).resolve().parents[1] / "checks"))
-from started_server import HOST, PATIENCE, StartedServer, Wrong, receive, wants
+from started_server import HOST, PATIENCE, StartedServer, is_asleep, receive, wait_until, wants
 
 OTHER_HOST = "127.0.0.2"
 GREETING = b"220 Ready\r\n"
@@ -200,14 +200,25 @@ def begin(session, line=b"RETR a\r\n"):
     session.gets(b"150 Opening\r\n")
 
 
+def fill(session, server, content):
+    """Sends as much as is taken while the client doesn't read: until that is nothing for a while in which the program sleeps."""
+    content, turns = memoryview(content), 0
+    server.setblocking(False)
+    while content and turns < 5:
+        try:
+            content, turns = content[server.send(content) :], 0
+        except BlockingIOError:
+            time.sleep(QUIET / 5)
+            turns = turns + 1 if is_asleep(program_of(session)) else 0
+    server.settimeout(PATIENCE)
+
+
 @contextlib.contextmanager
 def held(session):
     """A download whose final reply the program holds, as the client has not read the data: the client's end of it."""
     with passive(session) as (client, server):
         begin(session)
-        server.settimeout(QUIET)
-        with contextlib.suppress(TimeoutError):
-            server.sendall(b"a" * 100_000_000)  # only as much as is taken
+        fill(session, server, b"a" * 100_000_000)
         server.shutdown(socket.SHUT_WR)
         session.server.sendall(b"226 Done\r\n")
         session.is_quiet(session.client)
@@ -227,11 +238,7 @@ def certificate(folder):
 
 
 def until_logged(session, words, count):
-    deadline = time.monotonic() + PATIENCE
-    while session.logged().count(words) < count:
-        if time.monotonic() > deadline:
-            raise Wrong(f"the log doesn't have {words!r} {count} times")
-        time.sleep(0.01)
+    wait_until(f"{words!r} {count} times in the log", lambda: session.logged().count(words) >= count)
 
 
 def program_of(session):
