@@ -2,9 +2,9 @@
 
 import re
 
-from assembly import TARGETS, exported, head_of, sources
-from library import RUST_TEXTS, TEXTS, TOP, text_file
-from proved import NotMade
+from assembly import PROCESSORS, exported, head_of, sources, texts_of
+from library import RUST_TEXTS, TEXTS, TOP
+from proved import NAME, NotMade
 from statements import unknown_line
 
 # the toolchains that a text may name, all of one logic
@@ -16,16 +16,16 @@ def path_of(file):
     return file.relative_to(TOP)
 
 
-def read(processor):
+def read(text):
     """The text as it is: a character for each byte."""
-    return text_file(processor).read_bytes().decode("latin-1")
+    return text.file.read_bytes().decode("latin-1")
 
 
-def head(processor):
+def head(text):
     """What the head of a text says: its toolchain and its sources."""
-    found = dict(re.findall(r"^ \* (toolchain|sources): (.*)$", read(processor).split("*/", 1)[0], re.M))
+    found = dict(re.findall(r"^ \* (toolchain|sources): (.*)$", read(text).split("*/", 1)[0], re.M))
     if sorted(found) != ["sources", "toolchain"]:
-        raise NotMade(f"{path_of(text_file(processor))} names no toolchain or no sources")
+        raise NotMade(f"{path_of(text.file)} names no toolchain or no sources")
     return found["toolchain"], found["sources"].removeprefix("sha256 ")
 
 
@@ -37,35 +37,36 @@ def check_toolchain(name):
 
 def check_files():
     """The two folders have these files and no other, which might be assembled or packed too, and no link."""
-    names = [text_file(processor).name for processor in TARGETS]
-    for folder, wanted in [(TEXTS, ["README.md", *names]), (RUST_TEXTS, names)]:
-        if sorted(path.name for path in folder.iterdir()) != sorted(wanted):
-            raise NotMade(f"{path_of(folder)} has other files than {', '.join(sorted(wanted))}")
-        if linked := [path for path in folder.iterdir() if path.resolve() != path]:
+    here = [TEXTS / "README.md", *(text.file for text in texts_of(PROCESSORS))]
+    of_rust = [RUST_TEXTS / text.file.name for text in texts_of([NAME])]
+    for folder, wanted in [(TEXTS, here), (RUST_TEXTS, of_rust)]:
+        found = [folder, *folder.rglob("*")]
+        if linked := [path for path in found if path.resolve() != path]:
             raise NotMade(f"{path_of(linked[0])} is a link")
+        if others := sorted({path for path in found if not path.is_dir()} ^ set(wanted)):
+            raise NotMade(f"{path_of(others[0])} is {'missing' if others[0] in wanted else 'no file that is made'}")
     return "only these files"
 
 
-def check_form(processor, toolchain):
+def check_form(text, toolchain):
     """The head is as it is made; then each line is one statement or label, up to the last, which say what is global."""
-    text, first, last = read(processor), head_of(processor, toolchain), [*exported(), ""]
-    if not text.startswith(first):
-        raise NotMade(f"{path_of(text_file(processor))} has another head: run tools/generated --write")
-    lines = text.removeprefix(first).split("\n")
-    if number := unknown_line(lines[: -len(last)], processor):
-        raise NotMade(f"{path_of(text_file(processor))} has a line that is no statement: {lines[number - 1]!r}")
+    found, first, last = read(text), head_of(text, toolchain), [*exported(text), ""]
+    if not found.startswith(first):
+        raise NotMade(f"{path_of(text.file)} has another head: run tools/generated --write")
+    lines = found.removeprefix(first).split("\n")
+    if number := unknown_line(lines[: -len(last)], text.processor):
+        raise NotMade(f"{path_of(text.file)} has a line that is no statement: {lines[number - 1]!r}")
     if lines[-len(last) :] != last:
-        raise NotMade(f"{path_of(text_file(processor))} ends with other lines")
+        raise NotMade(f"{path_of(text.file)} ends with other lines")
 
 
-def check_sources(processor):
-    """Says of which toolchain the text is, where it is of the sources that are here, and the crate in Rust has the same."""
-    toolchain, summed = head(processor)
-    text = text_file(processor)
+def check_sources(text):
+    """Says of which toolchain a text is, where it is of the sources that are here; and the crate in Rust has the same of the library."""
+    toolchain, summed = head(text)
     check_toolchain(toolchain)
-    if summed != sources():
-        raise NotMade(f"{path_of(text)} is of other sources: run tools/generated --write")
-    check_form(processor, toolchain)
-    if text.read_bytes() != (RUST_TEXTS / text.name).read_bytes():
-        raise NotMade(f"{path_of(RUST_TEXTS)} has another {text.name}: run tools/generated --write")
+    if summed != sources(text.crate):
+        raise NotMade(f"{path_of(text.file)} is of other sources: run tools/generated --write")
+    check_form(text, toolchain)
+    if text.crate == NAME and read(text) != (RUST_TEXTS / text.file.name).read_bytes().decode("latin-1"):
+        raise NotMade(f"{path_of(RUST_TEXTS)} has another {text.file.name}: run tools/generated --write")
     return f"of these sources, by {toolchain}"

@@ -1,10 +1,10 @@
 /*
  * unftp_control 0.3.0: the calls of include/unftp_control.h, for Linux on x86-64.
- * This file is generated: README.md beside it says how.
+ * This file is generated: generated/README.md says how.
  *
  * made by: tools/generated --write
  * toolchain: rattle-kit-13f logic dac8208d650f15bf
- * sources: sha256 03920bd98828f32d66bc877285ac163aae3415e9145f8b31b2346e374e4a5f3f
+ * sources: sha256 9df12732eb47375754fce5c7acf07b177964178e5c384356acbb7176dbec1754
  */
 	.section	.rodata.cst16,"aM",@progbits,16
 	.p2align	4, 0x0

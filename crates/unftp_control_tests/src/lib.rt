@@ -1,9 +1,11 @@
 //! Tests of what no contract says and no row of `vectors/` can show: what `?` makes of another
 //! error, readers that fail, what Debug writes under its flags, most callers of `example_callers`
-//! once, recorders, relays with filters of their own, and MLST and the facts of files, for which the
-//! program of the rows would have to load `jiff`.
+//! once, recorders, relays with filters of their own, addresses after other bytes, and MLST and the
+//! facts of files, for which the program of the rows would have to load `jiff`.
 #![tactic(auto)]
 
+#[cfg(test)]
+mod addresses;
 #[cfg(test)]
 mod callers;
 #[cfg(test)]
