@@ -1,4 +1,6 @@
 # shellcheck shell=bash
+# What the checks ask of a machine: a script that has the top of the repository in `top` takes these in.
+
 # Prints the path without the toolchain: a folder that has it is replaced by one with links to all else in it, in the folder $1.
 path_without_toolchain() {
     local folder folders=()
@@ -12,4 +14,11 @@ path_without_toolchain() {
         fi
         printf '%s:' "$folder"
     done
+}
+
+# Whether cargo is there, and no older than the Rust package asks for.
+has_cargo() {
+    local wanted
+    wanted=$(sed -nE 's/^rust-version = "(.*)"$/\1/p' "$top/bindings/rust/Cargo.toml")
+    command -v cargo >/dev/null && [ "$(printf '%s\n' "$wanted" "$(cargo --version | cut -d' ' -f2)" | sort -V | head -n 1)" = "$wanted" ]
 }
