@@ -144,8 +144,11 @@ static void search_for_secrets(void)
 /* Reads replies that are these bytes, then some others so many times, and then these. */
 static void read_replies(const char *first, const char *middle, size_t count, const char *last)
 {
+    /* a command as a log shows it */
+    char shown[100];
     size_t size = strlen(first), len;
 
+    memset(shown, 'a', sizeof shown);
     memcpy(text, first, size);
     for (; count > 0 && size + strlen(middle) + strlen(last) <= sizeof text; count--) {
         memcpy(text + size, middle, strlen(middle));
@@ -155,8 +158,10 @@ static void read_replies(const char *first, const char *middle, size_t count, co
     size += strlen(last);
     unftp_reply_lines(text, size, out, sizeof out, &len);
     expect("unftp_reply_lines", size, 40 * size + 100);
-    unftp_log_exchange("", 0, text, size, out, sizeof out, &len);
-    expect("unftp_log_exchange", size, 40 * size + 100);
+    for (size_t shown_len = 0; shown_len <= sizeof shown; shown_len += sizeof shown) {
+        unftp_log_exchange(shown, shown_len, text, size, out, sizeof out, &len);
+        expect("unftp_log_exchange", shown_len + size, 40 * (shown_len + size) + 100);
+    }
 }
 
 /* Each line and each reply is held by itself, so those of few bytes cost most. */
