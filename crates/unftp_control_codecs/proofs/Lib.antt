@@ -4,6 +4,7 @@ pub mod OffsetLemmas
 pub mod PathLemmas
 pub mod RunLemmas
 pub mod VerbLemmas
+pub mod WordLemmas
 pub mod ParsingMemoryLemmas
 pub mod TextLemmas
 pub mod ReturnLemmas

@@ -10,8 +10,9 @@ use std::marker::Model;
 use unftp_control_defs::count::Count;
 
 /// Finds lines as `FtpCodec` does, and compares each byte with a line feed once, though many at a
-/// time: it keeps what it has seen of the bytes after a line. Between its calls the bytes may only
-/// lose at their start the line that it has found, or what it drops, and grow at their end.
+/// time: it keeps what it has seen of the bytes after a line. Between its calls the line that it has
+/// found, or what it drops, has to leave the bytes at their start; beside that they may only grow at
+/// their end.
 #[derive(Drop)]
 pub struct LineFinder {
     compared: usize,

@@ -7,7 +7,7 @@ mod typed;
 mod value;
 mod verb;
 
-pub use parser::{list_path, parameter, parse, parts, split};
+pub use parser::{Words, list_path, parameter, parse, parts, split};
 pub use unftp_control_defs::verb::is_verb;
 pub use unftp_control_message::reply::error::{
     ParseError, ParseErrorKind, Result, same_parse_errors,

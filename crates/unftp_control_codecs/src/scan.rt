@@ -1,5 +1,5 @@
 //! The one way by which codecs and decoders scan bytes for a line feed.
-ghost use Rattle.std.specs.Prelude.{◌≡◌, ◌+◌, ◌-◌, ◌<◌, ◌≤◌, length, MatchOption};
+ghost use Rattle.std.specs.Prelude.{◌≡◌, ◌+◌, ◌-◌, ◌<◌, ◌≤◌, if◌then◌else◌, length, MatchOption, Some};
 ghost use Rattle.unftp_control_codecs.specs.LineFeed.{IsBlock, line_feed_from};
 
 use std::marker::Model;
@@ -96,13 +96,56 @@ impl<'a, 'c> Scan<'a, 'c> {
         ensures same_reference { self.new.tests.ghost_name ≡ self.old.tests.ghost_name }
     {
         let mut at = from;
+        while self.bytes.len() - at >= FEW {
+            if self.is_line_feed(at) {
+                return Some(at);
+            }
+            if self.is_line_feed(at + 1) {
+                return Some(at + 1);
+            }
+            if self.is_line_feed(at + 2) {
+                return Some(at + 2);
+            }
+            if self.is_line_feed(at + 3) {
+                return Some(at + 3);
+            }
+            at += FEW;
+        }
+        self.find_among_few(at)
+    }
+
+    /// The same, where few bytes are left.
+    #[inline(always)]
+    fn find_among_few(&mut self, from: usize) -> Option<usize>
+        requires { from ≤ length self.old.bytes.now }
+        ensures found { result ≡ line_feed_from self.old.bytes.now from }
+        ensures tests { MatchOption result
+            (self.new.tests.now ≡ self.old.tests.now + (length self.old.bytes.now - from))
+            (λ k. self.new.tests.now ≡ self.old.tests.now + (k + 1 - from)) }
+        ensures bytes { self.new.bytes.now ≡ self.old.bytes.now }
+        ensures same_reference { self.new.tests.ghost_name ≡ self.old.tests.ghost_name }
+    {
+        let mut at = from;
         while at < self.bytes.len() {
-            if self.compare::<1>(at).line_feeds != 0 {
+            if self.is_line_feed(at) {
                 return Some(at);
             }
             at += 1;
         }
         None
+    }
+
+    /// Compares one byte with a line feed.
+    #[inline(always)]
+    fn is_line_feed(&mut self, at: usize) -> bool
+        requires { at < length self.old.bytes.now }
+        ensures found { line_feed_from self.old.bytes.now at
+            ≡ (if result then Some at else line_feed_from self.old.bytes.now (at + 1)) }
+        ensures tests { self.new.tests.now ≡ self.old.tests.now + 1 }
+        ensures bytes { self.new.bytes.now ≡ self.old.bytes.now }
+        ensures same_reference { self.new.tests.ghost_name ≡ self.old.tests.ghost_name }
+    {
+        self.compare::<1>(at).line_feeds != 0
     }
 
     /// Compares bytes by blocks, from `from` on: returns the first block with a line feed, or none

@@ -22,8 +22,9 @@ use unftp_control_serve::{Input, Output, ServeError, Served, Session, serve_with
 /// A line may have `line_limit` bytes, its line feed counted, and a longer one gets one refusal.
 /// The limit has to be at least 1.
 ///
-/// What it returns and leaves of the streams is as for `serve_with_limit`, at `Ok` and at each
-/// error. `Handler` is an error of the handler, or out of memory for a reply of the gate's own.
+/// What it returns and leaves of the streams is as for `serve` at `Ok`, and as for
+/// `serve_with_limit` at each error. `Handler` is an error of the handler, or out of memory for a
+/// reply of the gate's own.
 pub fn serve_members<R: Read, W: Write, A: Accounts, H: Session>(
     alloc: Global,
     line_limit: usize,

@@ -53,10 +53,6 @@ abbrev pub IsBorrowed : Value → Type 0
 IsBorrowed (rust.Lossy (sent.Plain bytes)) = ¬ IsUtf8 bytes.now
 IsBorrowed _ = ⊤
 
--- So it is of parts, whose name is in upper case.
-abbrev pub AreInPlace : Parts → Type 0
-AreInPlace parts = IsInPlace parts.value × (upper parts.name.now ≡ parts.name.now)
-
 -- how many bytes it holds
 abbrev pub value_len : SaidValue → ℕ
 value_len (Raw bytes) = length bytes

@@ -3,7 +3,7 @@ ghost use Rattle.std.specs.Prelude.{◌≡◌, ◌↔◌, IsTrue, option_map, st
 ghost use Rattle.unftp_control_defs.specs.FtpCommand.{maybe_raw, maybe_text, said, unless_empty};
 ghost use Rattle.unftp_control_defs.specs.Said.{HasTypedFields, outcome_of, name_and_value, value_bytes, word_and_value};
 ghost use Rattle.unftp_control_message.specs.CommandMeaning.{command_of};
-ghost use Rattle.unftp_control_message.specs.PartsMeaning.{AreInPlace, IsInPlace, MakesCommand, said_value, said_len, said_of, spelled};
+ghost use Rattle.unftp_control_message.specs.PartsMeaning.{IsInPlace, MakesCommand, said_value, said_len, said_of, spelled};
 
 use crate::password::Password;
 use crate::reply::error::ParseErrorKind;
@@ -85,14 +85,6 @@ impl<'a> Parts<'a> {
         let word = self.verb.word();
         let word = if word.is_empty() { self.name } else { word };
         (word, self.value.bytes(digits))
-    }
-
-    /// Whether its value is where it was read, as it is, and its name in upper case.
-    #[inline(always)]
-    pub fn are_in_place(&self) -> bool
-        ensures { IsTrue result ↔ AreInPlace self.now }
-    {
-        self.value.is_in_place() && !self.name.as_bytes().iter().any(|b| b.is_ascii_lowercase())
     }
 }
 

@@ -74,8 +74,8 @@ abbrev pub pending_with : {S : Type 0} → EngineState → SessionLaw S → S �
 pending_with engine law s piece =
     if ends_with engine law s piece then [] else incomplete_line (bytes_with engine piece)
 
--- So many comparisons with a line feed were made of n bytes: one of each, but for the last ones, of
--- which at most 31 were compared, with the bytes before them.
+-- So many comparisons with a line feed were made of n bytes: as many as bytes come before the last
+-- ones, and at most 31 more.
 pub record AreScanned (scanned n last : ℕ) : Type 0 where
   pub once : scanned ≤ n
   pub each : n ≤ scanned + last
@@ -95,7 +95,8 @@ fed law s engine piece scanned = record {
   held = max engine.held (engine.buffered + length piece);
 }
 
--- This is what it is, and each byte of the piece was scanned once, but for those after the end.
+-- This is what it is, and as many comparisons were made as the piece has bytes, or after an end as
+-- come before that, and at most 31 more.
 pub record IsFed {S : Type 0} (law : SessionLaw S) (s : S) (engine : EngineState) (piece : Bytes)
     (after : EngineState) : Type 0 where
   pub is : after ≡ fed law s engine piece after.scanned

@@ -49,8 +49,7 @@ module _ (limit : Option ℕ) {S : Type 0} (law : SessionLaw S) (before after : 
 
   -- The lines of the run over what was read were answered. Either the run ended, in the last
   -- piece; or the reader came to its end, and gave nothing then. So many bytes came after the
-  -- run's last line; each byte that did not come after its end was scanned exactly once; and so
-  -- many were held.
+  -- run's last line; so many comparisons with a line feed were made; and so many bytes were held.
   pub record AnsweredAll (served : Served) : Type 0 where
     pub pieces : List Bytes
     pub were_read : WereRead input input' pieces (if served.done then [] else 0 ∷ [])
@@ -124,7 +123,8 @@ pub record Serves (limit : Option ℕ) {S : Type 0} (law : SessionLaw S) (before
   -- The handler is in the last state of this run;
   pub state : after.state ≡ last_state law before.state (run_for limit law before.state read)
   pub done : served.done ≡ ends_for limit law before.state read
-  -- and each byte was scanned for a line feed exactly once, but for those after that line.
+  -- and as many comparisons with a line feed were made as bytes were read, or where the handler was
+  -- left done, as came up to the end of that line, and at most 31 more.
   pub tested : AreScanned served.tests (length read) (length (after_end limit law before.state read))
   -- So many bytes came after the last line of the run.
   pub left : served.left ≡ saturating_u64 (length (unread limit law before.state read))

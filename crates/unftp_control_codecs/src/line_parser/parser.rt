@@ -1,5 +1,5 @@
 //! A line's verb and parameter, what it says, and the command that it is.
-ghost use Rattle.std.specs.Prelude.{◌≡◌, ◌≢◌, ◌≤◌, ◌<◌, ℕ, IsTrue, false, length, option_map, slice_index, IfOk};
+ghost use Rattle.std.specs.Prelude.{◌≡◌, ◌≢◌, ◌≤◌, ◌<◌, ℕ, [], IsTrue, false, length, option_map, slice_index, IfOk, IfSome, MatchOption};
 ghost use Rattle.std.specs.List.{position_or_len};
 ghost use Rattle.unftp_control_message.specs.CommandMeaning.{command_of};
 ghost use Rattle.unftp_control_message.specs.SentValues.{sent_value};
@@ -7,7 +7,8 @@ ghost use Rattle.unftp_control_defs.specs.Bytes.{Bytes};
 ghost use Rattle.unftp_control_defs.specs.Canonical.{HasLine};
 ghost use Rattle.unftp_control_defs.specs.Lines.{IsLine};
 ghost use Rattle.unftp_control_defs.specs.Paths.{path_of};
-ghost use Rattle.unftp_control_defs.specs.Said.{KindSaysBack};
+ghost use Rattle.unftp_control_defs.specs.FtpCommand.{Nothing, Outcome};
+ghost use Rattle.unftp_control_defs.specs.Said.{IsSaid, KindSaysBack};
 ghost use Rattle.unftp_control_defs.specs.Verbs.{is_separator, parameter_of, upper, verb_of};
 ghost use Rattle.unftp_control_defs.specs.Outcome.{value_outcome, outcome, parameter_outcome, site_outcome};
 ghost use Rattle.unftp_control_defs.specs.Rules.{subcommand_outcome, taken};
@@ -15,11 +16,11 @@ ghost use Rattle.unftp_control_defs.specs.ComputedValue.{value_of};
 ghost use Rattle.unftp_control_defs.specs.declared.verb.Kind.TheVariants as kinds;
 ghost use Rattle.unftp_control_codecs.specs.Memory.{MayTakeMemory, OnOutOfMemory, ParsesTo, PartsTo, ReadsTo};
 ghost use Rattle.unftp_control_codecs.specs.ParseAnswer.{Returns};
-ghost use Rattle.unftp_control_codecs.specs.WordsMeaning.{AreWords, BeginsWith};
+ghost use Rattle.unftp_control_codecs.specs.WordsMeaning.{AreWords, BeginsWith, EndsWith, IsLone, IsUsual};
 
 use crate::line_parser::fields::{listing, optional_text, path_in, raw, text};
 use crate::line_parser::typed::typed;
-use crate::line_parser::value::parameter_value;
+use crate::line_parser::value::{parameter_value, some_usual_value};
 use crate::line_parser::verb::is_same_word;
 use memchr::memchr3;
 use std::alloc::Global;
@@ -34,6 +35,8 @@ use unftp_control_message::sent::Sent;
 
 /// How many bytes the longest verb with a rule of its own has. `memchr3` takes longer over so few.
 const LONGEST_VERB: usize = 4;
+
+const LF: u8 = b'\n';
 
 /// How many bytes come before the first that ends a word.
 #[inline(never)]
@@ -158,12 +161,7 @@ fn command_in(alloc: Global, line: &[u8]) -> result::Result<Command, ParseErrorK
 pub fn parts(line: &[u8]) -> result::Result<Parts<'_>, ParseErrorKind>
     ensures { PartsTo (outcome line.now) result }
 {
-    let words = first_words(line)?;
-    Ok(Parts {
-        verb: words.verb,
-        name: words.name,
-        value: value(words.kind, words.verb, words.parameter)?,
-    })
+    Words::of(line)?.parts()
 }
 
 /// The value of a line's parameter (RFC 959, section 5.3): the bytes that were sent, a CR NUL as one
@@ -188,9 +186,10 @@ pub fn list_path(line: &[u8]) -> Option<Sent<'_>>
     Some(path_in(parameter(line)?))
 }
 
-/// What a line begins with, and the parameter after it.
+/// What a line begins with, and the parameter after it, all of them in the line: what `parts` reads
+/// first (RFC 959, section 5.3).
 #[derive(Clone, Copy)]
-struct Words<'a> {
+pub struct Words<'a> {
     /// The verb; of SITE that of the subcommand.
     verb: Verb,
     /// What is made of the parameter.
@@ -201,29 +200,92 @@ struct Words<'a> {
     parameter: &'a [u8],
 }
 
-/// The words that a line begins with.
-#[inline(always)]
-#[tactic(auto, using(crate::proofs::OutcomeLemmas::outcomes))]
-fn first_words(line: &[u8]) -> result::Result<Words<'_>, ParseErrorKind>
-    ensures { BeginsWith (outcome line.now) result }
-{
-    let (word, parameter) = split(line);
-    let Some(verb) = verb_named(word) else {
-        return Ok(Words {
-            verb: Verb::Other,
-            kind: Kind::OptionalText,
-            name: from_utf8(word)?,
-            parameter,
-        });
-    };
-    match verb.kind() {
-        Kind::Subcommand => site(parameter),
-        kind => Ok(Words {
-            verb,
-            kind,
-            name: "",
-            parameter,
-        }),
+impl<'a> Words<'a> {
+    /// The words that a line begins with. It takes no memory. It is refused with `InvalidUtf8` where
+    /// the verb, or the subcommand of SITE, is not UTF-8.
+    #[inline(always)]
+    #[tactic(auto, using(crate::proofs::OutcomeLemmas::outcomes))]
+    pub fn of(line: &'a [u8]) -> result::Result<Words<'a>, ParseErrorKind>
+        ensures words { BeginsWith (outcome line.now) result }
+        ensures in_line { IfOk result (λ words. EndsWith line.now words.parameter.now) }
+    {
+        let (word, parameter) = split(line);
+        let Some(verb) = verb_named(word) else {
+            return Ok(Words {
+                verb: Verb::Other,
+                kind: Kind::OptionalText,
+                name: from_utf8(word)?,
+                parameter,
+            });
+        };
+        match verb.kind() {
+            Kind::Subcommand => site(parameter),
+            kind => Ok(Words {
+                verb,
+                kind,
+                name: "",
+                parameter,
+            }),
+        }
+    }
+
+    /// The verb; of SITE that of the subcommand.
+    #[inline(always)]
+    pub fn verb(self) -> Verb
+        ensures { result ≡ self.entry.verb }
+    {
+        self.verb
+    }
+
+    /// The verb, where it is all that the line says: its parameter is ignored, or there is none
+    /// before the line's CR LF. It is for callers to whom a value's absence is worth a test.
+    #[inline(always)]
+    pub fn lone_verb(self) -> Option<Verb>
+        ensures lone { MatchOption result (¬ IsLone self.entry)
+            (λ verb. IsLone self.entry × (verb ≡ self.entry.verb)) }
+        ensures says { IfSome result (λ verb. (answer : Outcome) → AreWords answer self.entry
+            → IsSaid answer (record { verb = verb; name = []; value = Nothing })) }
+    {
+        match (self.kind, self.parameter) {
+            (Kind::Ignored, _) | (Kind::Alone, [LF]) => Some(self.verb),
+            _ => None,
+        }
+    }
+
+    /// The value, where the verb takes a text or bytes and the line has a usual one: well-formed
+    /// UTF-8 of a text, of bytes that are all greater than a CR, before the line's CR LF. It is for
+    /// callers to whom the place of a value in its line is worth a test. It takes no memory.
+    #[inline(always)]
+    pub fn usual_value(self) -> Option<&'a [u8]>
+        ensures { IfSome result (λ value. IsUsual self.entry value.now) }
+    {
+        match self.kind {
+            Kind::Raw => {
+                let value = some_usual_value(self.parameter)?;
+                Some(value)
+            }
+            Kind::Text => {
+                let value = some_usual_value(self.parameter)?;
+                match from_utf8(value) {
+                    Ok(_) => Some(value),
+                    Err(_) => None,
+                }
+            }
+            _ => None,
+        }
+    }
+
+    /// What the line says: `parts` of the line. It is refused as that is, and takes no memory.
+    #[inline(always)]
+    pub fn parts(self) -> result::Result<Parts<'a>, ParseErrorKind>
+        requires { self.kind ≢ kinds.Subcommand }
+        ensures { (answer : Outcome) → AreWords answer self.entry → PartsTo answer result }
+    {
+        Ok(Parts {
+            verb: self.verb,
+            name: self.name,
+            value: value(self.kind, self.verb, self.parameter)?,
+        })
     }
 }
 
@@ -231,7 +293,8 @@ fn first_words(line: &[u8]) -> result::Result<Words<'_>, ParseErrorKind>
 #[inline(always)]
 #[tactic(auto, using(crate::proofs::OutcomeLemmas::outcomes))]
 fn site(parameter: &[u8]) -> result::Result<Words<'_>, ParseErrorKind>
-    ensures { BeginsWith (site_outcome parameter.now) result }
+    ensures words { BeginsWith (site_outcome parameter.now) result }
+    ensures in_line { IfOk result (λ words. EndsWith parameter.now words.parameter.now) }
 {
     let (name, parameter) = split(parameter);
     Ok(subcommand(from_utf8(name)?, parameter))
@@ -240,8 +303,9 @@ fn site(parameter: &[u8]) -> result::Result<Words<'_>, ParseErrorKind>
 /// A SITE subcommand, and its parameter.
 #[inline(always)]
 fn subcommand<'a>(name: &'a str, parameter: &'a [u8]) -> Words<'a>
-    ensures { AreWords
+    ensures words { AreWords
         (value_outcome (subcommand_outcome (upper name.now)) (value_of parameter.now)) result }
+    ensures parameter { result.parameter.now ≡ parameter.now }
 {
     if is_same_word(name.as_bytes(), b"MD5") {
         return Words {

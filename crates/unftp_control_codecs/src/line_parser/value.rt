@@ -1,5 +1,5 @@
 //! The value of a parameter.
-ghost use Rattle.std.specs.Prelude.{◌≡◌, ◌≢◌, ◌≤◌, ◌↔◌, ◌+◌, IsTrue, IfSome, option_map, length, []};
+ghost use Rattle.std.specs.Prelude.{◌≡◌, ◌≢◌, ◌≤◌, ◌↔◌, ◌<◌, ◌+◌, ◌++◌, IsTrue, IfSome, option_map, length, []};
 ghost use Rattle.unftp_control_defs.specs.Bytes.{crlf};
 ghost use Rattle.unftp_control_defs.specs.ComputedValue.{value_of};
 ghost use Rattle.unftp_control_message.specs.SentValues.{sent_value};
@@ -94,7 +94,8 @@ fn is_crlf(bytes: &[u8]) -> bool
 /// The value of the usual parameter, which has only bytes greater than a CR before its CR LF.
 #[inline(always)]
 fn usual_value(parameter: &[u8]) -> Option<&[u8]>
-    ensures { IfSome result (λ value. value_of parameter.now ≡ Some value.now) }
+    ensures value { IfSome result (λ value. value_of parameter.now ≡ Some value.now) }
+    ensures end { IfSome result (λ value. parameter.now ≡ value.now ++ crlf) }
 {
     let (value, end) = parameter.split_at(parameter.len().saturating_sub(2));
     if !is_crlf(end) {
@@ -104,6 +105,20 @@ fn usual_value(parameter: &[u8]) -> Option<&[u8]>
         return Some(value);
     }
     None
+}
+
+/// The same, where it is not empty.
+#[inline(always)]
+pub fn some_usual_value(parameter: &[u8]) -> Option<&[u8]>
+    ensures value { IfSome result (λ value. value_of parameter.now ≡ Some value.now) }
+    ensures end { IfSome result (λ value. parameter.now ≡ value.now ++ crlf) }
+    ensures some { IfSome result (λ value. 0 < length value.now) }
+{
+    let value = usual_value(parameter)?;
+    if value.is_empty() {
+        return None;
+    }
+    Some(value)
 }
 
 /// The value of parameter bytes; none after an invalid line ending. It takes no memory.

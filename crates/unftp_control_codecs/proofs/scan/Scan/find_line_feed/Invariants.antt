@@ -2,8 +2,8 @@ use Rattle.std.proofs.Common.{◌≡◌, ◌≤◌, ◌+◌, ◌-◌, length}
 use Rattle.unftp_control_codecs.specs.LineFeed.{line_feed_from}
 use Rattle.unftp_control_codecs.proofs.scan.Scan.find_line_feed.Given as goal
 
-abbrev pub invariant-loop-at : goal.invariant-loop-at
-invariant-loop-at l = record {
+abbrev pub invariant-loop-self : goal.invariant-loop-self
+invariant-loop-self l = record {
   bytes : l.self.bytes.now ≡ l.initial.self.bytes.now;
   same_reference : l.self.tests.ghost_name ≡ l.initial.self.tests.ghost_name;
   reached : (l.from ≤ l.at) × (l.at ≤ length l.initial.self.bytes.now);
@@ -12,5 +12,5 @@ invariant-loop-at l = record {
       ≡ line_feed_from l.initial.self.bytes.now l.at;
 }
 
-abbrev pub decreases-loop-at : goal.decreases-loop-at
-decreases-loop-at l = length l.self.bytes.now - l.at
+abbrev pub decreases-loop-self : goal.decreases-loop-self
+decreases-loop-self l = length l.self.bytes.now - l.at

@@ -1,19 +1,8 @@
 use Rattle.std.proofs.Common.{◌≡◌, true, []}
 use Rattle.unftp_control_serve.specs.Decoder.{is_found}
-use Rattle.unftp_control_serve.proofs.DecoderLemmas.{line_taken, long_taken, long_well, taken_well}
+use Rattle.unftp_control_serve.proofs.DecoderLemmas.{line_taken, long_taken}
 use Rattle.unftp_control_serve.proofs.decoder.EventDecoder.take_line.Goals as goal
 use Rattle.unftp_control_serve.proofs.decoder.EventDecoder.take_line.Goals.{in-Line, in-TooLong, in-Unknown}
-
-pub invariant_of-self : goal.invariant_of-self
-invariant_of-self c =
-    let found : is_found c.self.inside.first ≡ true = rw (← c.self.view_is) at c.requires in
-    elim c.match-self.branch [
-      | in-Line w ↦ rw w.self-inside-is
-          (taken_well (rw w.in-Line.is at c.self.invariant))
-      | in-TooLong w ↦ rw (w.self-inside-is, w.none-self-inside.ensures)
-          (long_well (rw w.in-TooLong.is at c.self.invariant))
-      | in-Unknown w ↦ absurd (let none = rw w.in-Unknown.is at found in cc)
-    ]
 
 pub returns : goal.returns
 returns c =
