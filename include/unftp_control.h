@@ -18,6 +18,33 @@
  * - A call takes at most 8,192 bytes of stack, with what malloc of the GNU C library takes, and the
  *   dynamic linker where it is the first.
  *
+ * What each call reads and writes of its arguments, and what memory it asks for. `none`: it never
+ * returns UNFTP_OUT_OF_MEMORY. `some`: it may. A number is how many bytes it holds at most, where
+ * it reads n bytes and writes *len: this is measured, and not proved.
+ *
+ *     call                         reads               writes                   memory
+ *     unftp_next                   connection, bytes   connection, area, line   some, for few lines
+ *     unftp_parameter              line                out, len                 none
+ *     unftp_list_path              line                out, len                 none
+ *     unftp_reply                  code, text          out, len                 none
+ *     unftp_quoted_path            path                out, len                 none
+ *     unftp_front_reply            bytes               reply                    none
+ *     unftp_reply_lines            bytes               out, len                 40 n + 100
+ *     unftp_canonical              line                out, len                 some
+ *     unftp_forward                line                out, len                 none
+ *     unftp_is_clear               line                nothing                  none
+ *     unftp_log_line               number, line        out, len                 3 *len + 32
+ *     unftp_log_exchange           shown, replies      out, len                 40 n + 100
+ *     unftp_client_line            client, line        client, place            none
+ *     unftp_client_reply           client, code        client, place            none
+ *     unftp_client_owed            client              nothing                  none
+ *     unftp_client_may_begin_tls   client, pending     nothing                  none
+ *     unftp_login_event            login, event        login                    none
+ *     unftp_login_answer           login, accepted     login                    none
+ *     unftp_read_address           form, text          ip, address              none
+ *     unftp_write_address          form, ip, port      out, len                 some
+ *     unftp_version                nothing             nothing                  none
+ *
  * What the library's functions return and write is proved, and so are the bounds on lengths, but
  * where a comment says that one is measured; how much stack a call takes, and that this header
  * matches the library, are tested.
@@ -34,7 +61,7 @@ extern "C" {
 
 /* The version that this header is of: major * 1,000,000 + minor * 1,000 + patch. */
 #define UNFTP_VERSION_MAJOR 0
-#define UNFTP_VERSION_MINOR 3
+#define UNFTP_VERSION_MINOR 4
 #define UNFTP_VERSION_PATCH 0
 #define UNFTP_VERSION \
     (UNFTP_VERSION_MAJOR * 1000000 + UNFTP_VERSION_MINOR * 1000 + UNFTP_VERSION_PATCH)
@@ -50,10 +77,9 @@ enum unftp_result {
     /* It has done what was asked. */
     UNFTP_DONE = 0,
 
-    /* A command, of unftp_next only. Its name is the verb here, also where the line has another
-       word for it: XCWD, XMKD, XPWD and BYE are CWD, MKD, PWD and QUIT. The comment beside each
-       names its value; one in brackets may be absent, and its length is then 0. One without a
-       comment takes no parameter: with one the line is refused. */
+    /* A command, of unftp_next only. XCWD, XMKD, XPWD and BYE are CWD, MKD, PWD and QUIT. The
+       comment beside each names its value. A value in brackets may be absent: its length is then 0.
+       A command without a comment takes no parameter: a line that has one is refused. */
     UNFTP_USER = 1,    /* [name] */
     UNFTP_PASS = 2,    /* [password] */
     UNFTP_ACCT = 3,    /* [account] */
@@ -78,7 +104,7 @@ enum unftp_result {
     UNFTP_PWD = 22,
     UNFTP_CWD = 23,    /* path */
     UNFTP_CDUP = 24,
-    UNFTP_OPTS = 25,   /* UTF8 ON or UTF8 OFF; also all in lower case */
+    UNFTP_OPTS = 25,   /* UTF8 ON or UTF8 OFF; the line may have it all in lower case */
     UNFTP_DELE = 26,   /* path */
     UNFTP_RMD = 27,    /* path */
     UNFTP_QUIT = 28,
@@ -88,14 +114,14 @@ enum unftp_result {
     UNFTP_STOU = 32,
     UNFTP_RNFR = 33,   /* path */
     UNFTP_RNTO = 34,   /* path */
-    UNFTP_AUTH = 35,   /* TLS or SSL, ignoring case */
+    UNFTP_AUTH = 35,   /* TLS or SSL; the line may have it in letters of any case */
     UNFTP_CCC = 36,
     UNFTP_PBSZ = 37,   /* 0 */
     UNFTP_PROT = 38,   /* C, S, E or P, in upper case only */
     UNFTP_SIZE = 39,   /* path */
     UNFTP_REST = 40,   /* offset, decimal digits of a number below 2^64 */
     UNFTP_MDTM = 41,   /* path */
-    UNFTP_MD5 = 42,    /* path; SITE MD5, its name is MD5 */
+    UNFTP_MD5 = 42,    /* path; SITE MD5 */
     UNFTP_SITE = 43,   /* [arguments]; its name is the subcommand */
     UNFTP_OTHER = 44,  /* [arguments]; its name is the line's verb, which is none of the above */
 
@@ -122,9 +148,9 @@ enum unftp_result {
     /* No reply has this code: it is not from 100 to 599. */
     UNFTP_UNKNOWN_CODE = 110,
     /* No call leaves such a connection: its offset is past the bytes, or is not 0 while bytes are
-       skipped, or skipping is greater than 1. Or as many lines were noted as 64 bits count; or the
-       accounts were not asked; or an address has no such form, length or port; or what is shown of
-       a line is not printable. */
+       skipped, or skipping is greater than 1. Or 2^64 - 1 lines were noted; or the accounts were
+       not asked; or an address has no such form, length or port; or what is shown of a line is not
+       printable. */
     UNFTP_INVALID_ARGUMENT = 111,
     /* The text has no such address. */
     UNFTP_NO_ADDRESS = 112,
@@ -209,13 +235,18 @@ struct unftp_connection {
 /* What unftp_next has taken. */
 struct unftp_line {
     /* How many bytes the caller drops from the front of the pending bytes before the next call,
-       whatever the result: at UNFTP_MORE it is not 0 where the line is too long. */
+       whatever the result: at UNFTP_MORE it is not 0 where the line is too long. The value may be
+       among these bytes: use it before you drop them. */
     size_t used;
-    /* The command's name is so many bytes at the start of the area: none for SITE without a
-       subcommand, and for an empty line, which is UNFTP_OTHER. */
+    /* How many bytes the name has, at the start of the area. Only UNFTP_SITE and UNFTP_OTHER have a
+       name: the subcommand, or the line's verb. It may be empty: an empty line is UNFTP_OTHER.
+       unftp_result_text returns the verb of each other command. */
     size_t name_len;
-    /* Its value is so many bytes right after the name. */
+    /* How many bytes the value has. unftp_value returns where they are. */
     size_t value_len;
+    /* Where the value begins in the pending bytes: it ends right before the line's end. 0 where the
+       line has the value in another form: it follows the name in the area. 0 where it is empty. */
+    size_t value_at;
 };
 
 /* What unftp_front_reply has found. */
@@ -297,41 +328,74 @@ struct unftp_address {
 };
 
 /*
- * Takes the next line of the pending bytes (RFC 959, section 5.3). It returns the number of a
- * command, UNFTP_INVALID_COMMAND, UNFTP_INVALID_UTF8, UNFTP_INVALID_EOL, UNFTP_LINE_TOO_LONG or
- * UNFTP_MORE; or UNFTP_OUT_OF_MEMORY, UNFTP_NO_ROOM or UNFTP_INVALID_ARGUMENT (below). At a command
- * and at a refused line the used bytes are the whole line, including the parts that its command
- * ignores: the `A` of `TYPE A`, the `ALL` of `EPSV ALL`. At UNFTP_LINE_TOO_LONG they are its end,
- * or all of it.
+ * Takes the next line of the pending bytes (RFC 959, section 5.3). It returns
+ * - the number of a command;
+ * - UNFTP_INVALID_COMMAND, UNFTP_INVALID_UTF8, UNFTP_INVALID_EOL or UNFTP_LINE_TOO_LONG, where the
+ *   line is refused;
+ * - UNFTP_MORE, where no line is complete; or
+ * - UNFTP_OUT_OF_MEMORY, UNFTP_NO_ROOM or UNFTP_INVALID_ARGUMENT. Then nothing is used up, and the
+ *   connection and the area are as they were.
  *
- * A verb ends at the first space, CR or LF of the line, and the parameter is what comes after that
- * one byte, up to the line's end: a second space belongs to it.
+ * At a command and at a refused line the used bytes are the whole line, including the parts that
+ * its command ignores: the `A` of `TYPE A`, the `ALL` of `EPSV ALL`. At UNFTP_LINE_TOO_LONG they
+ * are the line's end, or all of it.
  *
- * tnftp and lftp send Telnet's bytes before ABOR, "\xff\xf4\xff\xf2" (RFC 854; RFC 959, section
- * 4.1.3). Such a line is UNFTP_INVALID_UTF8: the caller takes these bytes away before.
+ * A verb ends at the first space, CR or LF of the line. The parameter is what comes after that one
+ * byte, up to the line's end: a second space belongs to it. In a value a CR that was sent as CR
+ * NUL, or as the parameter's first byte, is one CR.
  *
- * After UNFTP_MORE no byte before the connection's offset is scanned again, and these bytes may not
- * change.
+ * Where the line has the value as it is, the value stays in the pending bytes. Only what the line
+ * doesn't have so is written to the area: the name, with the letters a to z in upper case, and
+ * after it a value in another form. Most lines have no name, and have their value as it is: nothing
+ * is written for them.
  *
- * The name and the value of a command are written to the area, one after the other. The name is
- * UTF-8, with the letters a to z in upper case. The value is what the line has after it, without
- * the line's end: a CR that was sent as CR NUL, or as the parameter's first byte, is one CR. Values
- * are UTF-8, with U+FFFD for each ill-formed part, but those of USER, PASS, ACCT and STAT, which
- * are the bytes that were sent. unftp_parameter writes the bytes that were sent of any line. At
- * UNFTP_NO_ROOM the area needs name_len + value_len bytes; a line of n bytes needs at most 3 n.
+ *     the line               result        name, in the area   value, of unftp_value
+ *     RETR a.txt             UNFTP_RETR    none                a.txt, at 5 of the pending bytes
+ *     LIST -la x             UNFTP_LIST    none                x, at 9
+ *     REST +5                UNFTP_REST    none                5, at 6
+ *     site chmod 644 a       UNFTP_SITE    CHMOD               644 a, at 11
+ *     xcrc a.txt             UNFTP_OTHER   XCRC                a.txt, at 5
+ *     noop                   UNFTP_NOOP    none                none
+ *     type a                 UNFTP_TYPE    none                none
+ *     auth tls               UNFTP_AUTH    none                TLS, in the area
+ *     RETR \xe9              UNFTP_RETR    none                \xef\xbf\xbd, in the area
+ *     site chmod \xe9        UNFTP_SITE    CHMOD               \xef\xbf\xbd, in the area at 5
+ *
+ * So a value lasts as long as the pending bytes and the area. Use it, or copy it, before you drop,
+ * move or overwrite the pending bytes, or pass the area to another call.
+ *
+ * Names are UTF-8. Values are UTF-8, with U+FFFD for each ill-formed part, but those of USER, PASS,
+ * ACCT and STAT, which are the bytes that were sent. unftp_parameter writes the bytes that were
+ * sent of any line.
+ *
+ * A line of n bytes needs an area of at most 3 n bytes, so one of three times the limit always has
+ * room. At UNFTP_NO_ROOM the area needs name_len bytes, and where value_at is 0, value_len more.
+ *
+ * Memory is taken only for a parameter with CR NUL, and for ill-formed UTF-8 in a value that is
+ * given as UTF-8; this is tested, and not proved.
  *
  * A line of more bytes than the limit is UNFTP_LINE_TOO_LONG once it has ended, whatever it holds.
  * Where a longer line comes in pieces, its bytes are used up at UNFTP_MORE, so fewer than limit
  * bytes stay pending then.
  *
- * At UNFTP_OUT_OF_MEMORY, UNFTP_NO_ROOM and UNFTP_INVALID_ARGUMENT nothing is used up, and the
- * connection and the area are as they were. Memory is taken only for a value with CR NUL, for one
- * with ill-formed UTF-8 that is given as UTF-8, and for the name of UNFTP_SITE or UNFTP_OTHER where
- * the line has a letter of it in lower case; this is tested, and not proved.
+ * After UNFTP_MORE no byte before the connection's offset is scanned again, and these bytes may not
+ * change.
+ *
+ * tnftp and lftp send Telnet's bytes before ABOR, "\xff\xf4\xff\xf2" (RFC 854; RFC 959, section
+ * 4.1.3). Such a line is UNFTP_INVALID_UTF8: the caller takes these bytes away before.
  */
 enum unftp_result unftp_next(struct unftp_connection *connection,
                              const char *bytes, size_t bytes_len,
                              char *area, size_t area_room, struct unftp_line *line) UNFTP_NONNULL;
+
+/* Where the value of a command begins, of line->value_len bytes: in the pending bytes or in the
+   area, which are those that unftp_next was passed. Call it only where unftp_next returned a
+   command: at UNFTP_NO_ROOM the area may be too small for the name. */
+static inline const char *unftp_value(const struct unftp_line *line, const char *bytes,
+                                      const char *area)
+{
+    return line->value_at != 0 ? bytes + line->value_at : area + line->name_len;
+}
 
 /*
  * Writes the value of a line's parameter to the start of out, and *len is how many bytes it has:
@@ -459,8 +523,8 @@ enum unftp_result unftp_canonical(const char *line, size_t line_len,
  *
  * It returns UNFTP_DONE; UNFTP_NO_LINE exactly where the bytes have no line feed at their end, or
  * one before it; UNFTP_INVALID_COMMAND, UNFTP_INVALID_UTF8 or UNFTP_INVALID_EOL for a line that is
- * no command; UNFTP_NO_ROOM, where *len is the room that is needed; or UNFTP_OUT_OF_MEMORY. out is
- * as it was but at UNFTP_DONE. No line of n bytes was found that needs more than n + 2; this is
+ * no command; or UNFTP_NO_ROOM, where *len is the room that is needed. out is as it was but at
+ * UNFTP_DONE. It takes no memory. No line of n bytes was found that needs more than n + 2; this is
  * measured, and not proved.
  */
 enum unftp_result unftp_forward(const char *line, size_t line_len,
@@ -548,9 +612,9 @@ enum unftp_result unftp_log_line(uint32_t number, const char *line, size_t line_
  * (0x20 to 0x7e), so that each byte that is written is; or else UNFTP_MORE where the last reply is
  * incomplete, or UNFTP_MALFORMED where a reply is malformed; or else UNFTP_NO_ROOM, where *len is
  * the room that is needed. UNFTP_OUT_OF_MEMORY comes only in place of UNFTP_DONE and UNFTP_NO_ROOM.
- * out is as it was but at UNFTP_DONE. It needs at most shown_len + 4 replies_len + 3. It holds up
- * to 40 bytes for each byte of shown and of the replies, and 100, which is measured, and not
- * proved: bound what a server may send.
+ * out is as it was but at UNFTP_DONE. No exchange was found that needs more than shown_len + 4
+ * replies_len + 3. It holds up to 40 bytes for each byte of shown and of the replies, and 100. Both
+ * are measured, and not proved: bound what a server may send.
  */
 enum unftp_result unftp_log_exchange(const char *shown, size_t shown_len,
                                      const char *replies, size_t replies_len,
@@ -671,7 +735,7 @@ enum unftp_result unftp_write_address(uint32_t form, const char *ip, size_t ip_l
 uint32_t unftp_version(void);
 
 /* A text for a result, as for a log: the verb of a command, and a phrase for each other. */
-static inline const char *unftp_result_text(enum unftp_result result)
+static inline const char *unftp_result_text(uint32_t result)
 {
     switch (result) {
     case UNFTP_DONE: return "done";

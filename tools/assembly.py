@@ -137,18 +137,23 @@ def compiled(text, work):
     return parts
 
 
+def is_label(name):
+    """Whether an object has no symbol of the name, quoted or not."""
+    return name.startswith((".L", '".L'))
+
+
 def with_version(name, part=""):
     """The name in the library's text of what the compiler calls so. Each has the version, labels too, so that two versions can be in one
     program: where Rust's compiler optimizes a whole program, it puts the texts of all its parts into one."""
     mark = f"unftp_{version().replace('.', '_')}"
-    if name.startswith(".L"):
-        return f".L{mark}_{part}{name[2:]}"
+    if is_label(name):
+        return in_program(name, f"{mark}_{part}")
     return f'"{mark}::{name[1:]}' if name.startswith('"') else f"{mark}_{name.removeprefix('unftp_')}"
 
 
 def in_program(name, part=""):
     """The name in a program's text: as the compiler has it, since nothing else is linked with it. A label says in which part it is."""
-    return f".L{part}{name[2:]}" if name.startswith(".L") else name
+    return name.replace(".L", f".L{part}", 1) if is_label(name) else name
 
 
 def new_names(text, parts):

@@ -41,6 +41,11 @@ def calls():
     return re.findall(r"^(?:enum unftp_\w+|uint\d+_t) (unftp_\w+)\([^{;]*\;", header(), re.M)
 
 
+def defined():
+    """The functions that the header defines."""
+    return re.findall(r"^static inline [^(]*?(unftp_\w+)\(", header(), re.M)
+
+
 def listed(pattern):
     """Constants of the header with their numbers and what their comments say, as the items of a list in the manual."""
     rows = re.findall(rf"^    ({pattern}) = (\d+),? *(?:/\* (.*?) \*/)?$", HEADER.read_text(encoding="utf-8"), re.M)
@@ -191,5 +196,5 @@ def install(libraries, root, prefix, libdir="lib"):
     place_libraries(read, root / libdir)
     for path, content in others.items():
         place(root / path, content)
-    for call in [*calls(), "unftp_result_text"]:
+    for call in [*calls(), *defined()]:
         link(root / "share/man/man3" / f"{call}.3", "unftp_control.3")

@@ -11,6 +11,6 @@ int main(void)
 
     if (unftp_next(&connection, received, sizeof received - 1, area, sizeof area, &line)
         == UNFTP_RETR)
-        printf("%.*s is asked for\n", (int)line.value_len, area + line.name_len);
+        printf("%.*s is asked for\n", (int)line.value_len, unftp_value(&line, received, area));
     return 0;
 }

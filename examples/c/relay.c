@@ -257,7 +257,7 @@ static bool drop_telnet(struct session *session)
 static bool take_line(struct session *session)
 {
     struct buffer *from = &session->client.from;
-    char area[AREA_ROOM];
+    char area[AREA_ROOM]; /* not read: the line itself is sent and logged */
     struct unftp_line line;
     enum unftp_result result;
 

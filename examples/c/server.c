@@ -45,8 +45,9 @@ enum {
     /* what unftp_next needs at most for a line of n bytes is 3 n */
     AREA_ROOM = 3 * LINE_LIMIT,
 
-    /* the longest text; its reply has a code, a space and CR LF beside it */
-    TEXT_ROOM = sizeof "SITE  : not implemented" + AREA_ROOM,
+    /* the longest text has a name and a value of one line, which have AREA_ROOM bytes at most; its
+       reply has a code, a space and CR LF beside it */
+    TEXT_ROOM = sizeof "SITE MD5 : not implemented" + AREA_ROOM,
     REPLY_ROOM = TEXT_ROOM + 6,
 
     /* how many bytes a client may send once its session has ended */
@@ -87,8 +88,9 @@ struct client {
     size_t end;
 };
 
-/* A command: its name is at the start of the area, and its value after it. */
+/* A command. Its value may be in the client's bytes, so it lasts until these are dropped. */
 struct command {
+    const char *bytes; /* the pending bytes that it was taken from */
     struct unftp_line line;
     char area[AREA_ROOM];
 };
@@ -225,6 +227,22 @@ static void append_string(struct text *text, const char *string)
     append(text, string, strlen(string));
 }
 
+/* The value of a command, of command->line.value_len bytes. */
+static const char *value_of(const struct command *command)
+{
+    return unftp_value(&command->line, command->bytes, command->area);
+}
+
+/* Appends what the command is: only SITE and another verb have a name in the area. */
+static void append_name(struct text *text, enum unftp_result result, const struct command *command)
+{
+    if (result != UNFTP_OTHER)
+        append_string(text, unftp_result_text(result));
+    if (result == UNFTP_SITE)
+        append_string(text, " ");
+    append(text, command->area, command->line.name_len);
+}
+
 /* Answers 502 with what the command says. */
 static bool answer_not_implemented(struct client *client, enum unftp_result result,
                                    const struct command *command)
@@ -232,12 +250,10 @@ static bool answer_not_implemented(struct client *client, enum unftp_result resu
     struct text text;
 
     text.len = 0;
-    if (result == UNFTP_SITE || result == UNFTP_MD5)
-        append_string(&text, "SITE ");
-    append(&text, command->area, command->line.name_len);
+    append_name(&text, result, command);
     if (command->line.value_len > 0) {
         append_string(&text, " ");
-        append(&text, command->area + command->line.name_len, command->line.value_len);
+        append(&text, value_of(command), command->line.value_len);
     }
     append_string(&text, ": not implemented");
     return send_reply(client, UNFTP_CODE_COMMAND_NOT_IMPLEMENTED, text.bytes, text.len);
@@ -249,7 +265,7 @@ static bool answer_site(struct client *client, const struct command *command)
     size_t name_len = command->line.name_len;
 
     if (name_len == sizeof echo - 1 && memcmp(command->area, echo, name_len) == 0)
-        return send_reply(client, UNFTP_CODE_COMMAND_OKAY, command->area + name_len,
+        return send_reply(client, UNFTP_CODE_COMMAND_OKAY, value_of(command),
                           command->line.value_len);
     return answer_not_implemented(client, UNFTP_SITE, command);
 }
@@ -323,12 +339,9 @@ static bool answer_line(struct client *client, enum unftp_result result,
 /* Takes the next line of the pending bytes: what unftp_next returns. */
 static enum unftp_result take_line(struct client *client, struct command *command)
 {
-    enum unftp_result result =
-        unftp_next(&client->connection, client->bytes + client->start, client->end - client->start,
-                   command->area, sizeof command->area, &command->line);
-
-    client->start += command->line.used;
-    return result;
+    command->bytes = client->bytes + client->start;
+    return unftp_next(&client->connection, command->bytes, client->end - client->start,
+                      command->area, sizeof command->area, &command->line);
 }
 
 /* Answers the complete lines of the pending bytes; false where the session is over. */
@@ -336,13 +349,17 @@ static bool answer_lines(struct client *client)
 {
     struct command command;
     enum unftp_result result;
+    bool is_open = true;
 
-    while ((result = take_line(client, &command)) != UNFTP_MORE) {
-        allow(client, client->options->idle);
-        if (!answer_line(client, result, &command))
-            return false;
-    }
-    return true;
+    do {
+        result = take_line(client, &command);
+        if (result != UNFTP_MORE) {
+            allow(client, client->options->idle);
+            is_open = answer_line(client, result, &command);
+        }
+        client->start += command.line.used; /* after the answer: the value may be in these bytes */
+    } while (is_open && result != UNFTP_MORE);
+    return is_open;
 }
 
 /* Puts what comes after the pending bytes, which are moved to the front; false where the session is

@@ -21,7 +21,7 @@ usage: tools/checks/embedding.py sessions|session SERVER..        the replies of
                                                              tools/checks/c/results.c
        tools/checks/embedding.py calls CALLS..                      what the header says of rooms and lengths: CALLS is tools/checks/c/calls.c
        tools/checks/embedding.py stack STACK                        what it says of the stack: STACK is tools/checks/c/stack.c
-       tools/checks/embedding.py allocations ALLOCATIONS            unftp_next asks for memory as often as parse does, or never where the line has the name and the value:
+       tools/checks/embedding.py allocations ALLOCATIONS            unftp_next asks for memory as often as parse does where it puts a value together, and else never:
                                                              ALLOCATIONS is tools/checks/c/allocations.c
        tools/checks/embedding.py shortcuts SHORTCUTS                the instructions of calls over long values: the short ways are taken.
                                                              SHORTCUTS is tools/checks/c/shortcuts.c
@@ -764,28 +764,37 @@ def check_results(program):
     return f"{len(known)} results with a text"
 
 
-def is_in_line(line):
-    """Whether the name and the value of a line's command are in it as they are: there is no CR NUL, no ill-formed UTF-8, and no small letter in
-    the verb or the subcommand."""
-    words = line.split(maxsplit=2)[:2] if line[:5].upper() == b"SITE " else line.split(maxsplit=1)[:1]
-    try:
-        line.decode()
-    except UnicodeDecodeError:
+# lines whose name is in lower case, or partly: it is put in upper case in the caller's area
+LOWER_CASE = [b"lang en\r\n", b"Xcrc a\n", b"rein\r\n", b"site chmod 644 a\r\n", b"SITE Umask\r\n"]
+# the commands with values of the library's own: it writes these in upper case, and takes no memory for them
+WITH_WORDS = ["AUTH", "OPTS"]
+
+
+def takes_memory(line, command, place):
+    """Whether unftp_next asks for memory: for a value with CR NUL or ill-formed UTF-8 that is put together; and for LIST also where only an
+    option has CR NUL."""
+    if command in WITH_WORDS:
         return False
-    return b"\r\0" not in line and all(word == word.upper() for word in words)
+    has_cr_nul, is_utf8 = b"\r\0" in line, line.decode(errors="ignore").encode() == line
+    if place == "area" and not has_cr_nul and is_utf8:
+        raise Wrong(f"the value of {line!r} is not where the line has it")
+    return place == "area" or (command == "LIST" and has_cr_nul)
 
 
 def check_allocations(program):
     """The lines among the rows by hand whose one line feed is their last byte: how often parse asks for memory is in their rows. unftp_next asks as
-    often at a value with CR NUL, never at a line that has its command's name and value, and else never or as often."""
+    often where it puts a value together, and else never, also not for a name in lower case."""
     parsed = [(unquoted(row.columns[3]), row.columns[1]) for row in rows("worked.tsv") if row.call == "parse"]
-    lines, numbers = zip(*[(line, number) for line, number in parsed if line.find(b"\n") == len(line) - 1 >= 0])
-    for line, number, found in zip(lines, numbers, said_of([program], lines).splitlines(), strict=True):
-        wanted = ["0"] if is_in_line(line) else [number] if b"\r\0" in line else ["0", number]
-        if found not in wanted:
-            raise Wrong(f"how often memory is asked for at {line!r}: {found}, and not {' or '.join(wanted)}")
-    in_line = sum(number != "0" for line, number in zip(lines, numbers) if is_in_line(line))
-    return f"{len(lines)} lines, of which {in_line} take memory only as a command of its own"
+    asked = [(line, number) for line, number in parsed if line.find(b"\n") == len(line) - 1 >= 0]
+    asked += [(line, "none by name") for line in LOWER_CASE]
+    saved = 0
+    for (line, number), said in zip(asked, said_of([program], [line for line, _ in asked]).splitlines(), strict=True):
+        found, *command, place = said.split(" ")
+        wanted = number if takes_memory(line, " ".join(command), place) else "0"
+        if found != wanted:
+            raise Wrong(f"how often memory is asked for at {line!r}: {found}, and not {wanted}")
+        saved += wanted != number
+    return f"{len(asked)} lines, of which {saved} take memory only as a command of its own"
 
 
 def instructions(program, function, *arguments):

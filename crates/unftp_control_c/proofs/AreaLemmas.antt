@@ -26,7 +26,7 @@ same_status : (a b : Status) → status_number a ≡ status_number b → a ≡ b
 same_status a b e = sym (numbered_back a) ∙ ap numbered e ∙ numbered_back b
 
 -- where it is done, the text is at the start of the area
-filled_done : (text area : Bytes) → (filled text area).result ≡ status_number Done
+pub filled_done : (text area : Bytes) → (filled text area).result ≡ status_number Done
     → take (filled text area).text_length (filled text area).area ≡ text
 filled_done text area = cond_both {A = Filled} (nat_le (length text) (length area)) _ _
     (λ left. left.result ≡ status_number Done → take left.text_length left.area ≡ text)

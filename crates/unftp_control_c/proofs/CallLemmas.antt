@@ -1,9 +1,9 @@
 -- What a call leaves, by its result.
-use Rattle.std.proofs.Common.{◌≡◌, ◌≢◌, ℕ, ◌*◌, ◌≤◌, Bool, true, false, [], ◌∷◌, ◌++◌, length, take, drop, Ok, Err, refl, subst, inl, inr, arith, length-append}
+use Rattle.std.proofs.Common.{◌≡◌, ◌≢◌, ℕ, ◌*◌, ◌<◌, ◌≤◌, Bool, true, false, [], ◌∷◌, ◌++◌, length, take, drop, Ok, Err, refl, ap, subst, inl, inr, arith, length-append}
 use Rattle.std.specs.Prelude.{nat_le}
 use Rattle.std.proofs.lemmas.Bool.{cond_both}
 use Rattle.std.proofs.lemmas.Bool.Decides.{nat_tests}
-use Rattle.std.proofs.lemmas.List.{length-take}
+use Rattle.std.proofs.lemmas.List.{length-take-le}
 use Rattle.unftp_control_defs.specs.Bytes.{Bytes}
 use Rattle.unftp_control_defs.specs.Events.{FtpEvent, Refused, event_of, line_too_long}
 use Rattle.unftp_control_defs.specs.FtpCommand.{Outcome, FtpCommand, User, InvalidCommand, InvalidUtf8, InvalidEol}
@@ -16,31 +16,45 @@ use Rattle.unftp_control_codecs.specs.declared.FirstLine.TheVariants.{Incomplete
 use Rattle.unftp_control_codecs.proofs.FirstLineLemmas.{CountsLine, Finds}
 use Rattle.unftp_control_c.specs.declared.next.Connection.{Connection}
 use Rattle.unftp_control_c.specs.declared.status.Status.TheVariants.{More, NoRoom, OutOfMemory, InvalidArgument}
-use Rattle.unftp_control_c.specs.Next.{Call, Left, Leaves, by_first_line, codec_of, first_of, given_for, given_left, gives, is_valid, kept, line_limit, next_codec, next_of, resumed, used_up, without_room}
+use Rattle.unftp_control_c.specs.Next.{AreTexts, Call, HasTexts, Left, Leaves, by_first_line, codec_of, first_of, given_for, given_left, gives, is_valid, kept, line_limit, next_codec, next_of, resumed, used_up, without_room, written_for}
 use Rattle.unftp_control_c.specs.Numbers.{status_number}
 use Rattle.unftp_control_c.specs.Taking.{Caller, after_piece, given_by, gives_none, is_made_again}
-use Rattle.unftp_control_c.proofs.AreaLemmas.{parts_apart}
+use Rattle.unftp_control_c.proofs.PlaceLemmas.{given_found}
 use Rattle.unftp_control_c.proofs.NextLemmas.{counts_of}
 use Rattle.unftp_control_c.proofs.RoomLemmas.{lengths, outcome_room}
+use Rattle.unftp_control_c.proofs.TextLemmas.{GivesTexts, outcome_texts}
+
+-- what is given of an event is UTF-8, where it is a command
+abbrev pub GivesTextsOf : FtpEvent → Type 0
+GivesTextsOf event = let given = given_for event in
+    given.number < 101 → AreTexts given.number given.name given.value
+
+event_texts : (answer : Outcome) → GivesTexts answer → GivesTextsOf (event_of answer)
+event_texts (Ok command) texts = λ few. texts
+event_texts (Err InvalidCommand) texts = λ few. absurd (omega (arith, few))
+event_texts (Err InvalidUtf8) texts = λ few. absurd (omega (arith, few))
+event_texts (Err InvalidEol) texts = λ few. absurd (omega (arith, few))
 
 -- the first line of a call, and its event
 pub record FirstEvent (call : Call) : Type 0 where
-  pub n : ℕ
+  pub line : Bytes
   pub event : FtpEvent
-  pub ends : CountsLine (codec_of call.connection) call.bytes (next_codec call) n
+  pub front : take (length line) call.bytes ≡ line
+  pub ends : CountsLine (codec_of call.connection) call.bytes (next_codec call) (length line)
   pub leaves : (area : Bytes) → next_of (record call { area = area })
-      ≡ gives (record call { area = area }) n (given_for event)
+      ≡ gives (record call { area = area }) line (given_for event)
   pub some : gives_none (given_for event).number ≡ false
-  pub small : lengths event ≤ 3 * n
+  pub texts : GivesTextsOf event
+  pub small : lengths event ≤ 3 * length line
   pub limited : 1 ≤ call.connection.limit → lengths event ≤ 3 * call.connection.limit
   pub takes : (dropped : Bytes)
       → Finds (codec_of call.connection) dropped call.bytes (next_codec call) (first_of call)
       → TakesEvent (line_limit call.connection.limit) (dropped ++ call.bytes) event
-      (drop n call.bytes)
+      (drop (length line) call.bytes)
 
 abbrev pub has_room : (call : Call) → FirstEvent call → Bool
-has_room call first = let given = given_for first.event in
-    nat_le (length (given.name ++ given.value)) (length call.area)
+has_room call first =
+    nat_le (length (written_for first.line (given_for first.event))) (length call.area)
 
 -- what a call leaves: it is no call; or no line is complete; or there is one, and room for it, or
 -- none; or memory ran out
@@ -51,9 +65,9 @@ pub data NextLeft (call : Call) : Left → Type 0 where
       → first_of call ≡ Incomplete n
       → NextLeft call (used_up call More n (resumed call.connection (next_codec call)))
   gave : (first : FirstEvent call) → has_room call first ≡ true
-      → NextLeft call (given_left call first.n (given_for first.event))
+      → NextLeft call (given_left call first.line (given_for first.event))
   no_room : (first : FirstEvent call) → has_room call first ≡ false
-      → NextLeft call (without_room call (given_for first.event))
+      → NextLeft call (without_room call first.line (given_for first.event))
   no_memory : NextLeft call (kept call OutOfMemory)
 
 -- a line that is not too long, where there is a limit
@@ -74,39 +88,48 @@ answer_gives (Err InvalidEol) = refl
 
 module _ (call : Call) where
   left_first : (first : FirstEvent call)
-      → NextLeft call (gives call first.n (given_for first.event))
+      → NextLeft call (gives call first.line (given_for first.event))
   left_first first = cond_both (has_room call first)
-      (given_left call first.n (given_for first.event))
-      (without_room call (given_for first.event)) (NextLeft call) (gave first) (no_room first)
+      (given_left call first.line (given_for first.event))
+      (without_room call first.line (given_for first.event)) (NextLeft call) (gave first)
+      (no_room first)
 
   left_found : is_valid call.connection (length call.bytes) ≡ true → (found : FirstLine)
       → first_of call ≡ found → NextLeft call (by_first_line call found)
   left_found ok (Incomplete n) e = asks n ok e
-  left_found ok (TooLong n) e = left_first (record {
-    n = n;
-    event = Refused line_too_long;
-    ends = (counts_of call ok (TooLong n) e).0;
-    leaves = λ area. rw (ok, e) refl;
-    some = refl;
-    small = omega arith;
-    limited = λ some. omega arith;
-    takes = λ dropped finds. rw e at finds;
-  })
+  left_found ok (TooLong n) e =
+      let line = take n call.bytes in
+      let counts = counts_of call ok (TooLong n) e in
+      let whole : length line ≡ n = length-take-le n call.bytes counts.0.within in
+      left_first (record {
+        line = line;
+        event = Refused line_too_long;
+        front = ap (λ n. take n call.bytes) whole;
+        ends = rw whole counts.0;
+        leaves = λ area. rw (ok, e) refl;
+        some = refl;
+        texts = λ few. absurd (omega (arith, few));
+        small = omega arith;
+        limited = λ some. omega arith;
+        takes = λ dropped finds. rw whole (rw e at finds);
+      })
   left_found ok (Complete n) e =
       let line = take n call.bytes in
       let counts = counts_of call ok (Complete n) e in
+      let whole : length line ≡ n = length-take-le n call.bytes counts.0.within in
       let small = outcome_room line in
-      let whole = length-take n call.bytes in
       left_first (record {
-        n = n;
+        line = line;
         event = event_of (outcome line);
-        ends = counts.0;
+        front = ap (λ n. take n call.bytes) whole;
+        ends = rw whole counts.0;
         leaves = λ area. rw (ok, e) refl;
         some = answer_gives (outcome line);
-        small = omega (arith, small, whole);
+        texts = event_texts (outcome line) (outcome_texts line);
+        small = small;
         limited = λ some.
             omega (arith, small, whole, within_limit call.connection n some counts.1);
-        takes = λ dropped finds. (rw e at finds).takes;
+        takes = λ dropped finds. rw whole (rw e at finds).takes;
       })
 
   pub left_so : (left : Left) → Leaves call left → NextLeft call left
@@ -116,14 +139,23 @@ module _ (call : Call) where
       (λ ok. left_found ok (first_of call) refl) invalid)
   left_so left (inr ran_out) = rw ran_out.1 no_memory
 
--- it is read from the area
+-- it is read where it is
 pub given_is : {call : Call} (first : FirstEvent call)
-    → given_by (given_left call first.n (given_for first.event)) ≡ given_for first.event ∷ []
+    → given_by call.bytes (given_left call first.line (given_for first.event))
+    ≡ given_for first.event ∷ []
 given_is {call} first =
-    let given = given_for first.event in
-    let parts = parts_apart given.name given.value
-    (drop (length (given.name ++ given.value)) call.area) in
-    rw (first.some, parts.0, parts.1) refl
+    let found = given_found call first.line first.front (given_for first.event) in
+    rw (first.some, found.0, found.1) refl
+
+-- and is UTF-8
+pub texts_left : {call : Call} (left : Left) → NextLeft call left → HasTexts call.bytes left
+texts_left {call} _ (gave first room) few =
+    let found = given_found call first.line first.front (given_for first.event) in
+    rw (found.0, found.1) (first.texts few)
+texts_left _ (invalid not_valid) few = absurd (omega (arith, few))
+texts_left _ (asks n ok found) few = absurd (omega (arith, few))
+texts_left _ (no_room first small) few = absurd (omega (arith, few))
+texts_left _ no_memory few = absurd (omega (arith, few))
 
 pub gives_some : (result : ℕ) → gives_none result ≡ false → (result ≢ status_number More)
     × (result ≢ status_number NoRoom) × (result ≢ status_number OutOfMemory)

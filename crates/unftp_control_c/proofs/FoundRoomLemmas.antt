@@ -6,7 +6,7 @@ use Rattle.unftp_control_c.specs.Areas.{Made, written}
 use Rattle.unftp_control_c.specs.Replies.{IsFoundText, found_text}
 use Rattle.unftp_control_c.proofs.AreaLemmas.{filled_length}
 
-pub line_length : (line : Bytes) → length (with_crlf line) ≡ length line + 2
+line_length : (line : Bytes) → length (with_crlf line) ≡ length line + 2
 line_length line = length-append line crlf
 
 -- of one line more
@@ -16,7 +16,7 @@ more_length line lines =
     omega (arith, length-append (with_crlf line) (found_text lines), line_length line)
 
 -- a text after the digits and a sign
-pub after_digits : (digits text : Bytes) (sign : ℕ)
+after_digits : (digits text : Bytes) (sign : ℕ)
     → length (with_crlf (digits ++ sign ∷ text)) ≡ length digits + length text + 3
 after_digits digits text sign =
     omega (arith, line_length (digits ++ sign ∷ text), length-append digits (sign ∷ text))

@@ -4,13 +4,14 @@ pub mod CallLemmas
 pub mod CanonicalLineLemmas
 pub mod ExchangeLawLemmas
 pub mod ExchangeLemmas
-pub mod ExchangeRoomLemmas
 pub mod ForwardedLineLemmas
 pub mod FoundRoomLemmas
 pub mod LogRoomLemmas
 pub mod LineLemmas
 pub mod NextLemmas
 pub mod ParameterRoomLemmas
-pub mod ReplyLemmas
+pub mod PlaceLemmas
+mod ReplyLemmas
 pub mod ReplyRoomLemmas
 pub mod RoomLemmas
+pub mod TextLemmas

@@ -51,7 +51,7 @@ byte_room b = cond_both (nat_lt 0 (short_escape b)) _ _ IsShort (λ _. omega ari
     (λ _. cond_both (nat_lt b 32) _ _ IsShort (λ _. omega arith)
     (λ _. cond_both (nat_lt b 127) (b ∷ []) _ IsShort (λ _. omega arith) (λ _. omega arith)))
 
-pub shown_room : (text : Bytes) → length (shown text) ≤ 4 * length text
+shown_room : (text : Bytes) → length (shown text) ≤ 4 * length text
 shown_room [] = omega arith
 shown_room (b ∷ text) =
     omega (arith, length-append (escape_ascii b) (shown text), byte_room b, shown_room text)

@@ -19,21 +19,21 @@ use Rattle.unftp_control_c.specs.Numbers.{fault_status, kind_status}
 use Rattle.unftp_control_c.specs.Next.{Call, Left, Leaves, LeavesLine, at_next_line, by_first_line, codec_of, first_of, given_for, given_of, gives, is_valid, next_codec, next_of, resumed, used_up}
 
 -- a line that gives no command takes no room
-pub fault_left : (call : Call) (n : ℕ) (fault : Fault)
-    → gives call n (given_for (Refused fault))
-    ≡ used_up call (fault_status fault) n (at_next_line call.connection)
-fault_left call n fault = rw (le-leb 0 (length call.area) (omega arith)) refl
+pub fault_left : (call : Call) (line : Bytes) (fault : Fault)
+    → gives call line (given_for (Refused fault))
+    ≡ used_up call (fault_status fault) (length line) (at_next_line call.connection)
+fault_left call line fault = rw (le-leb 0 (length call.area) (omega arith)) refl
 
 pub refused_left : (call : Call) (line : Bytes) (kind : ParseErrorKind)
     → IsRefusal (outcome line) kind
-    → gives call (length line) (given_for (event_of (outcome line)))
+    → gives call line (given_for (event_of (outcome line)))
     ≡ used_up call (kind_status kind) (length line) (at_next_line call.connection)
 refused_left call line kind.InvalidCommand refuses =
-    rw refuses (fault_left call (length line) (refusal_fault InvalidCommand))
+    rw refuses (fault_left call line (refusal_fault InvalidCommand))
 refused_left call line kind.InvalidUtf8 refuses =
-    rw refuses (fault_left call (length line) (refusal_fault InvalidUtf8))
+    rw refuses (fault_left call line (refusal_fault InvalidUtf8))
 refused_left call line kind.InvalidEol refuses =
-    rw refuses (fault_left call (length line) (refusal_fault InvalidEol))
+    rw refuses (fault_left call line (refusal_fault InvalidEol))
 refused_left call line kind.OutOfMemory refuses = absurd refuses
 
 -- a command is given as it is said
@@ -58,12 +58,11 @@ module _ (call : Call) (valid : is_valid call.connection (length call.bytes) ≡
       → next_of call ≡ used_up call LineTooLong n (resumed call.connection (next_codec call))
   too_long_left n e =
       let c = counts_of (TooLong n) (sym e) in
-      found_left (TooLong n) e ∙ fault_left call n line_too_long ∙ rw (c.1, c.2) refl
+      let whole = length-take-le n call.bytes c.0.within in
+      found_left (TooLong n) e ∙ fault_left call (take n call.bytes) line_too_long
+      ∙ rw (whole, c.1, c.2) refl
 
   pub complete_left : (n : ℕ) → Complete n ≡ first_of call → (left : Left)
       → LeavesLine call (take n call.bytes) left → Leaves call left
-  complete_left n e left (inl so) =
-      let whole : length (take n call.bytes) ≡ n =
-      length-take-le n call.bytes (counts_of (Complete n) (sym e)).0.within in
-      inl (rw whole at so ∙ sym (found_left (Complete n) e))
+  complete_left n e left (inl so) = inl (so ∙ sym (found_left (Complete n) e))
   complete_left n e left (inr out) = inr ((n, valid, sym e, out.0), out.1)

@@ -1,5 +1,6 @@
 -- How much room the name and the value of a line's command need.
-use Rattle.std.proofs.Common.{◌≡◌, ℕ, ◌+◌, ◌*◌, ◌^◌, ◌<◌, ◌≤◌, Bool, true, cond, ◌==◌, ◌&&◌, nat_lt, List, [], ◌∷◌, length, length-drop, length-append, Option, Some, None, unwrap_or, Ok, Err, bytes_eq, codes, decimal, refl, sym, ap, subst, arith, rules}
+use Rattle.std.proofs.Common.{◌≡◌, ℕ, ◌+◌, ◌*◌, ◌^◌, ◌<◌, ◌≤◌, Bool, true, false, cond, ◌==◌, ◌&&◌, nat_lt, List, [], ◌∷◌, ◌++◌, length, length-drop, length-append, Option, Some, None, unwrap_or, Ok, Err, bytes_eq, codes, decimal, refl, sym, ap, subst, arith, rules}
+use Rattle.std.specs.Prelude.{if◌then◌else◌}
 use Rattle.std.specs.Char.{to_ascii_uppercase}
 use Rattle.std.specs.List.{AllByRecursion, position_or_len, slice_index}
 use Rattle.std.specs.Str.{is_utf8, all_ascii_digits}
@@ -30,7 +31,7 @@ use Rattle.unftp_control_defs.proofs.RuleLemmas.{found}
 use Rattle.unftp_control_defs.proofs.SaidLemmas.{fits, other_fits, site_fits}
 use Rattle.unftp_control_defs.proofs.ValueLemmas.{Reads-value_of}
 use Rattle.unftp_control_codecs.proofs.TextLemmas.{optional_says}
-use Rattle.unftp_control_c.specs.Next.{given_for, given_of}
+use Rattle.unftp_control_c.specs.Next.{Given, given_for, given_of, lengths_of, needed_room, value_place, written_for}
 
 -- how many bytes the name and the value have that is given
 abbrev said_room : Said → ℕ
@@ -39,6 +40,24 @@ said_room parts = length (given_of parts).name + length (given_of parts).value
 -- so of an event: none for a refusal
 abbrev pub lengths : FtpEvent → ℕ
 lengths event = length (given_for event).name + length (given_for event).value
+
+-- and no more of it is written to the area
+pub written_room : (line : Bytes) (given : Given)
+    → length (written_for line given) ≤ length given.name + length given.value
+written_room line given = cond_both (nat_lt 0 (value_place line given.value)) [] given.value
+    (λ text. length (given.name ++ text) ≤ length given.name + length given.value)
+    (λ _. omega (arith, length-append given.name []))
+    (λ _. omega (arith, length-append given.name given.value))
+
+-- it needs this much room
+pub written_needs : (n : ℕ) (line : Bytes) (given : Given)
+    → length (written_for line given) ≡ needed_room (lengths_of n line given)
+written_needs n line given = by_place (nat_lt 0 (value_place line given.value))
+  where
+    by_place : (stays : Bool) → length (given.name ++ (if stays then [] else given.value))
+        ≡ length given.name + (if stays then 0 else length given.value)
+    by_place true = length-append given.name []
+    by_place false = length-append given.name given.value
 
 abbrev room : Outcome → ℕ
 room answer = lengths (event_of answer)
@@ -84,21 +103,21 @@ optional_length (b ∷ v) = omega (arith, length-utf8_lossy (b ∷ v))
 
 -- What the verbs with a value of their own type make of it.
 chosen_room : (rows : List (Bytes × FtpCommand))
-    → AllByRecursion (λ row. lengths (Command row.1) ≤ 4 + 3 * length row.0) rows → (v : Bytes)
-    → room (chosen rows v) ≤ 4 + 3 * length v
+    → AllByRecursion (λ row. lengths (Command row.1) ≤ 3 * length row.0) rows → (v : Bytes)
+    → room (chosen rows v) ≤ 3 * length v
 chosen_room [] each v = omega arith
 chosen_room (row ∷ rows) each v = cond_both (bytes_eq row.0 v) (Ok row.1) (chosen rows v)
-    (λ answer. room answer ≤ 4 + 3 * length v)
+    (λ answer. room answer ≤ 3 * length v)
     (λ is. omega (arith, each.0, ap length ((bytes_decides row.0 v).0 is)))
     (λ _. chosen_room rows each.1 v)
 
-auth_room : (v : Bytes) → room (auth v) ≤ 4 + 3 * length v
+auth_room : (v : Bytes) → room (auth v) ≤ 3 * length v
 auth_room v = cond_both (nat_lt 3 (length v)) (Err InvalidCommand)
     (cond (is_utf8 v) (chosen mechanisms (upper v)) (Err InvalidUtf8))
-    (λ answer. room answer ≤ 4 + 3 * length v)
+    (λ answer. room answer ≤ 3 * length v)
     (λ _. omega arith)
     (λ _. cond_both (is_utf8 v) (chosen mechanisms (upper v)) (Err InvalidUtf8)
-    (λ answer. room answer ≤ 4 + 3 * length v)
+    (λ answer. room answer ≤ 3 * length v)
     (λ _. omega (
       arith,
       chosen_room mechanisms (search rules) (upper v),
@@ -107,7 +126,7 @@ auth_room v = cond_both (nat_lt 3 (length v)) (Err InvalidCommand)
     (λ _. omega arith))
 
 -- a decimal number has no more digits than it was read from
-rest_room : (v : Bytes) → room (offset (utf8_lossy v)) ≤ 4 + 3 * length v
+rest_room : (v : Bytes) → room (offset (utf8_lossy v)) ≤ 3 * length v
 rest_room v =
     let text : Bytes = utf8_lossy v in
     let digits : Bytes = without_leading_plus text in
@@ -115,7 +134,7 @@ rest_room v =
     let some : Bool = nat_lt 0 (length digits) in
     let are_digits : Bool = some && all_ascii_digits digits in
     cond_both (are_digits && nat_lt n (2 ^ 64)) (Ok (Rest n)) (Err InvalidCommand)
-    (λ answer. room answer ≤ 4 + 3 * length v)
+    (λ answer. room answer ≤ 3 * length v)
     (λ is.
     let both = and_parts are_digits (nat_lt n (2 ^ 64)) is in
     let each = and_parts some (all_ascii_digits digits) both.0 in
@@ -133,8 +152,7 @@ rest_room v =
     ))
     (λ _. omega arith)
 
-typed_room : (verb : Verb) (v : Bytes)
-    → room (typed_outcome verb v) ≤ length (word verb) + 3 * length v
+typed_room : (verb : Verb) (v : Bytes) → room (typed_outcome verb v) ≤ 3 * length v
 typed_room verb.Stru v = chosen_room structures (search rules) v
 typed_room verb.Mode v = chosen_room modes (search rules) v
 typed_room verb.Prot v = chosen_room protections (search rules) v
@@ -144,30 +162,23 @@ typed_room verb.Auth v = auth_room v
 typed_room verb.Rest v = rest_room v
 typed_room verb v = omega arith
 
-name_length : (name : Bytes) → length name ≤ length (name_on_line name [])
-name_length [] = omega arith
-name_length (b ∷ name) = omega arith
-
 -- What a verb with this name makes of a value, and of a parameter.
 module _ (verb : Verb) (name : Bytes) where
-  abbrev said_length : ℕ
-  said_length = length (name_on_line (word verb) name)
-
   says_room : (value : Value) → SaysBack verb name value
-      → room (command_by verb name value) ≡ said_length + value_room value
+      → room (command_by verb name value) ≡ length name + value_room value
   says_room value says = told (command_by verb name value)
       (record { verb = verb; name = name; value = value }) says.1
 
   taken_room : (kind : Kind) → KindSaysBack kind verb name → (v : Bytes)
-      → room (taken kind verb name v) ≤ said_length + 3 * length v
+      → room (taken kind verb name v) ≤ length name + 3 * length v
   taken_room kinds.Alone says v = cond_both (length v == 0) (command_by verb name Nothing)
-      (Err InvalidCommand) (λ answer. room answer ≤ said_length + 3 * length v)
+      (Err InvalidCommand) (λ answer. room answer ≤ length name + 3 * length v)
       (λ _. omega (arith, says_room Nothing says)) (λ _. omega arith)
   taken_room kinds.Raw says v =
       omega (arith, says_room (maybe_raw (unless_empty v)) (says v), raw_length v)
   taken_room kinds.Text says v = cond_both (length v == 0) (Err InvalidCommand)
       (command_by verb name (Text (utf8_lossy v)))
-      (λ answer. room answer ≤ said_length + 3 * length v) (λ _. omega arith)
+      (λ answer. room answer ≤ length name + 3 * length v) (λ _. omega arith)
       (λ _. omega (
         arith,
         says_room (Text (utf8_lossy v)) (says (utf8_lossy v)),
@@ -186,19 +197,17 @@ module _ (verb : Verb) (name : Bytes) where
         path_length (utf8_lossy v),
         length-utf8_lossy v,
       )
-  taken_room kinds.Typed nameless v = subst
-      (λ name. room (typed_outcome verb v) ≤ length (name_on_line (word verb) name) + 3 * length v)
-      (sym nameless) (omega (arith, typed_room verb v, name_length (word verb)))
+  taken_room kinds.Typed nameless v = omega (arith, typed_room verb v)
   taken_room kinds.Ignored says v = omega arith
   taken_room kinds.Subcommand says v = omega arith
 
   value_room_of : (kind : Kind) → KindSaysBack kind verb name → (parameter : Bytes)
       → room (value_outcome (taken kind verb name) (value_of parameter))
-      ≤ said_length + 3 * length parameter
+      ≤ length name + 3 * length parameter
   value_room_of kind says parameter = by_value (value_of parameter) refl
     where
       by_value : (o : Option Bytes) → value_of parameter ≡ o
-          → room (value_outcome (taken kind verb name) o) ≤ said_length + 3 * length parameter
+          → room (value_outcome (taken kind verb name) o) ≤ length name + 3 * length parameter
       by_value None is = omega arith
       by_value (Some v) is = omega (
         arith,
@@ -225,11 +234,7 @@ subcommand_room name parameter = cond_both (bytes_eq name (codes "MD5"))
     (taken kinds.Text verb.Md5 []) (taken kinds.OptionalText verb.Site name)
     (λ answer. room (value_outcome answer
     (value_of parameter)) ≤ length name + 3 * length parameter)
-    (λ is. omega (
-      arith,
-      value_room_of verb.Md5 [] kinds.Text (fits verb.Md5) parameter,
-      ap length ((bytes_decides name (codes "MD5")).0 is),
-    ))
+    (λ _. omega (arith, value_room_of verb.Md5 [] kinds.Text (fits verb.Md5) parameter))
     (λ _. value_room_of verb.Site name kinds.OptionalText (site_fits name) parameter)
 
 site_room : (parameter : Bytes) → room (site_outcome parameter) ≤ 3 * length parameter
@@ -246,7 +251,7 @@ site_room parameter = cond_both (is_utf8 (verb_of parameter))
 
 parameter_room : (kind : Kind) (verb : Verb) (name : Bytes) → KindSaysBack kind verb name
     → (parameter : Bytes) → room (parameter_outcome kind verb name parameter)
-    ≤ length (name_on_line (word verb) name) + 3 * length parameter
+    ≤ length name + 3 * length parameter
 parameter_room kinds.Ignored verb name says parameter =
     omega (arith, says_room verb name Nothing says)
 parameter_room kinds.Subcommand verb name says parameter = omega (arith, site_room parameter)
@@ -262,11 +267,6 @@ parameter_room kinds.Listing verb name says parameter =
     value_room_of verb name kinds.Listing says parameter
 parameter_room kinds.Typed verb name says parameter =
     value_room_of verb name kinds.Typed says parameter
-
--- the canonical word of a verb has at most three times the bytes of any of its words
-all_words : AllByRecursion
-    (λ row. length (name_on_line (word row.1) []) ≤ 3 * length row.0) verbs
-all_words = search arith
 
 -- the name and the value of a line's command
 pub outcome_room : (line : Bytes) → lengths (event_of (outcome line)) ≤ 3 * length line
@@ -287,6 +287,4 @@ outcome_room line = cond_both (is_utf8 (verb_of line))
       arith,
       cut_length line,
       parameter_room (kind verb) verb [] (fits verb) (parameter_of line),
-      found (λ name verb. length (name_on_line (word verb) []) ≤ 3 * length name)
-          (upper (verb_of line)) verbs all_words is,
     )

@@ -1,8 +1,10 @@
 -- What a call of `unftp_next` is given, and what it leaves.
-use Rattle.std.specs.Prelude.{◌≡◌, ℕ, ◌==◌, ◌&&◌, ◌||◌, ◌⊎◌, Bool, true, if◌then◌else◌, [], ◌++◌, length, take, nat_le, Option, None, Some, unwrap_or}
-use Rattle.unftp_control_defs.specs.Bytes.{Bytes}
+use Rattle.std.specs.Prelude.{◌≡◌, ℕ, ◌+◌, ◌-◌, ◌<◌, ◌==◌, ◌&&◌, ◌||◌, ◌⊎◌, Bool, true, false, if◌then◌else◌, [], ◌∷◌, ◌++◌, length, take, drop, nat_le, nat_lt, bytes_eq, Option, None, Some, unwrap_or}
+use Rattle.std.specs.Str.{IsUtf8}
+use Rattle.unftp_control_defs.specs.Bytes.{Bytes, crlf}
 use Rattle.unftp_control_defs.specs.Events.{FtpEvent, Command, Refused, event_of, line_too_long}
-use Rattle.unftp_control_defs.specs.Said.{word_and_value}
+use Rattle.unftp_control_defs.specs.Said.{value_bytes}
+use Rattle.unftp_control_defs.specs.Verbs.{upper}
 use Rattle.unftp_control_defs.specs.FtpCommand.{Outcome, number, Said, said}
 use Rattle.unftp_control_defs.specs.Outcome.{outcome}
 use Rattle.unftp_control_codecs.specs.Memory.{OutcomeMayTakeMemory, MayTakeMemory}
@@ -23,14 +25,14 @@ pub record Call : Type 0 where
   pub connection : Connection
   -- the pending bytes
   pub bytes : Bytes
-  -- the area for a command's name and value
+  -- the area for what the line doesn't have as it is
   pub area : Bytes
 
 pub record Left : Type 0 where
   pub result : ℕ
   pub connection : Connection
   pub area : Bytes
-  -- how many bytes are used up, and how long the name and the value are
+  -- how many bytes are used up, how long the name and the value are, and where the value is
   pub line : Line
 
 abbrev pub call_with : Connection → Bytes → Bytes → Call
@@ -82,7 +84,7 @@ at_next_line connection = resumed connection (reset (codec_of connection))
 
 -- nothing is used up, and no name and value are given
 abbrev pub no_lengths : Line
-no_lengths = record { used = 0; name_len = 0; value_len = 0 }
+no_lengths = record { used = 0; name_len = 0; value_len = 0; value_at = 0 }
 
 -- so many bytes are used up, and no name and value are given
 abbrev pub used_up : Call → Status → ℕ → Connection → Left
@@ -93,7 +95,8 @@ used_up call status n connection =
 abbrev pub kept : Call → Status → Left
 kept call status = used_up call status 0 call.connection
 
--- what a caller is given for a line: a number, and the name and the value of a command
+-- What a caller is given for a line: the number of a command, the name that the number doesn't say,
+-- of a subcommand of SITE or of another verb, and the value.
 pub record Given : Type 0 where
   pub number : ℕ
   pub name : Bytes
@@ -102,14 +105,14 @@ pub record Given : Type 0 where
 -- what the code holds of it
 abbrev pub meant : CodeGiven → Given
 meant given =
-    record { number = given.number; name = given.name.now; value = given.value.now }
+    record { number = given.number; name = upper given.name.now; value = given.value.now }
 
 -- what is said of a command, with an empty value where it has none
 abbrev pub given_of : Said → Given
 given_of parts = record {
   number = number parts.verb;
-  name = (word_and_value parts).0;
-  value = unwrap_or (word_and_value parts).1 [];
+  name = parts.name;
+  value = unwrap_or (value_bytes parts.value) [];
 }
 
 -- the event of a line, as it has to be given
@@ -118,33 +121,84 @@ given_for (Command command) = given_of (said command)
 given_for (Refused fault) =
     record { number = status_number (fault_status fault); name = []; value = [] }
 
--- so many bytes are used up, and these are the lengths of the name and the value
-abbrev pub lengths_of : ℕ → Given → Line
-lengths_of n given =
-    record { used = n; name_len = length given.name; value_len = length given.value }
+-- whether bytes end with these
+abbrev pub has_end : Bytes → Bytes → Bool
+has_end bytes end = bytes_eq end (drop (length bytes - length end) bytes)
 
--- A line of n bytes is given: its name, and then its value.
-abbrev pub given_left : Call → ℕ → Given → Left
-given_left call n given = left_with given.number (at_next_line call.connection)
-    (overwritten (given.name ++ given.value) call.area) (lengths_of n given)
+-- a line without its end, CR LF or LF
+abbrev pub line_text : Bytes → Bytes
+line_text line = take (length line - (if has_end line crlf then 2 else 1)) line
 
--- Nothing is used up, and the area needs the two lengths.
-abbrev pub without_room : Call → Given → Left
-without_room call given = record (kept call NoRoom) { line = lengths_of 0 given }
+-- Where a line has this value as it is: right before its end, after another byte. Else it is 0.
+abbrev pub value_place : Bytes → Bytes → ℕ
+value_place line [] = 0
+value_place line (b ∷ value) = if has_end (line_text line) (b ∷ value)
+    then length (line_text line) - length (b ∷ value)
+    else 0
 
-abbrev pub gives : Call → ℕ → Given → Left
-gives call n given = if nat_le (length (given.name ++ given.value)) (length call.area)
-    then given_left call n given
-    else without_room call given
+-- what is written to the area: the name, and the value where the line doesn't have it
+abbrev pub written_for : Bytes → Given → Bytes
+written_for line given =
+    given.name ++ (if nat_lt 0 (value_place line given.value) then [] else given.value)
+
+-- so many bytes of the line are used up, and these are the lengths and the place
+abbrev pub lengths_of : ℕ → Bytes → Given → Line
+lengths_of n line given = record {
+  used = n;
+  name_len = length given.name;
+  value_len = length given.value;
+  value_at = value_place line given.value;
+}
+
+-- The line is used up, and given.
+abbrev pub given_left : Call → Bytes → Given → Left
+given_left call line given = left_with given.number (at_next_line call.connection)
+    (overwritten (written_for line given) call.area) (lengths_of (length line) line given)
+
+-- how much room an area needs for what is written
+abbrev pub needed_room : Line → ℕ
+needed_room line = line.name_len + (if nat_lt 0 line.value_at then 0 else line.value_len)
+
+-- Nothing is used up, and so much room is needed.
+abbrev pub without_room : Call → Bytes → Given → Left
+without_room call line given = record (kept call NoRoom) { line = lengths_of 0 line given }
+
+abbrev pub gives : Call → Bytes → Given → Left
+gives call line given = if nat_le (length (written_for line given)) (length call.area)
+    then given_left call line given
+    else without_room call line given
+
+-- A caller finds the name at the start of the area, and the value where it is: in the pending
+-- bytes, or after the name.
+abbrev pub name_in : Left → Bytes
+name_in left = take left.line.name_len left.area
+
+abbrev pub value_in : Bytes → Left → Bytes
+value_in bytes left = take left.line.value_len (if nat_lt 0 left.line.value_at
+    then drop left.line.value_at bytes
+    else drop left.line.name_len left.area)
+
+-- a command of this number has the bytes that were sent as its value: USER, PASS, ACCT, STAT
+abbrev pub has_any_bytes : ℕ → Bool
+has_any_bytes number = number == 1 || number == 2 || number == 3 || number == 5
+
+-- What is given of a command is UTF-8: its name, and its value, but where that has any bytes.
+abbrev pub AreTexts : ℕ → Bytes → Bytes → Type 0
+AreTexts number name value = IsUtf8 name × (has_any_bytes number ≡ false → IsUtf8 value)
+
+abbrev pub HasTexts : Bytes → Left → Type 0
+HasTexts bytes left =
+    left.result < 101 → AreTexts left.result (name_in left) (value_in bytes left)
 
 -- Where no line is complete, the bytes stay, or are dropped where the line is too long already. A
 -- line that is too long is given as such, whatever it holds, and any other as its outcome.
 abbrev pub by_first_line : Call → FirstLine → Left
 by_first_line call (Incomplete n) =
     used_up call More n (resumed call.connection (next_codec call))
-by_first_line call (TooLong n) = gives call n (given_for (Refused line_too_long))
+by_first_line call (TooLong n) =
+    gives call (take n call.bytes) (given_for (Refused line_too_long))
 by_first_line call (Complete n) =
-    gives call n (given_for (event_of (outcome (take n call.bytes))))
+    gives call (take n call.bytes) (given_for (event_of (outcome (take n call.bytes))))
 
 -- what a call leaves, where memory is there
 abbrev pub next_of : Call → Left
@@ -157,15 +211,17 @@ abbrev pub LineMayTakeMemory : Call → Type 0
 LineMayTakeMemory call = (n : ℕ) × (is_valid call.connection (length call.bytes) ≡ true)
     × (first_of call ≡ Complete n) × MayTakeMemory (take n call.bytes)
 
--- The command is given. Memory may run out for one that holds some, and is not in the line as it is.
-abbrev pub GivesCommand : Call → ℕ → Outcome → Type 0 → Left → Type 0
-GivesCommand call n answer in_line left = (left ≡ gives call n (given_for (event_of answer)))
-    ⊎ (¬ in_line × OutcomeMayTakeMemory answer × (left ≡ kept call OutOfMemory))
+-- The command is given. Memory may run out for one that holds some, and whose value has to be put
+-- together.
+abbrev pub GivesCommand : Call → Bytes → Outcome → Type 0 → Left → Type 0
+GivesCommand call line answer in_place left =
+    (left ≡ gives call line (given_for (event_of answer)))
+    ⊎ (¬ in_place × OutcomeMayTakeMemory answer × (left ≡ kept call OutOfMemory))
 
 -- what is left after a complete line that is not too long
 abbrev pub LeavesLine : Call → Bytes → Left → Type 0
 LeavesLine call line left =
-    (left ≡ gives call (length line) (given_for (event_of (outcome line))))
+    (left ≡ gives call line (given_for (event_of (outcome line))))
     ⊎ (MayTakeMemory line × (left ≡ kept call OutOfMemory))
 
 abbrev pub Leaves : Call → Left → Type 0

@@ -8,8 +8,6 @@ use Rattle.unftp_control_message.specs.declared.reply.error.parse_error.ParseErr
 use Rattle.unftp_control_message.specs.declared.reply.error.parse_error.ParseErrorKind.TheVariants as kind
 use Rattle.unftp_control_write.specs.declared.WriteCommandError.{WriteCommandError}
 use Rattle.unftp_control_write.specs.declared.WriteCommandError.TheVariants as error
-use Rattle.unftp_control_write.specs.declared.forwarding.ForwardError.{ForwardError}
-use Rattle.unftp_control_write.specs.declared.forwarding.ForwardError.TheVariants as forward
 use Rattle.unftp_control_c.specs.declared.status.Status.{Status}
 use Rattle.unftp_control_c.specs.declared.status.Status.TheVariants.{Done, More, InvalidCommand, InvalidUtf8, InvalidEol, LineTooLong, OutOfMemory, NoRoom, NoLine, Malformed, UnknownCode, InvalidArgument, NoAddress, UnknownProtocol}
 
@@ -59,9 +57,3 @@ fault_status fault = status_of_kind fault.kind (source_status fault.source)
 abbrev pub line_status : WriteCommandError → Status
 line_status error.NoLine = NoLine
 line_status error.OutOfMemory = OutOfMemory
-
--- why a line is not forwarded
-abbrev pub forward_status : ForwardError → Status
-forward_status forward.NotALine = NoLine
-forward_status (forward.Refused kind) = kind_status kind
-forward_status forward.OutOfMemory = OutOfMemory

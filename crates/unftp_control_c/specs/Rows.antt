@@ -9,8 +9,8 @@ a_call bytes offset skipping limit area =
     call_with (record { limit = limit; offset = offset; skipping = skipping }) bytes area
 
 -- the result, how many bytes are used up, the offset, whether bytes were dropped, the limit, and
--- the area with the lengths of the name and the value
-abbrev pub leaving : ℕ → ℕ → ℕ → ℕ → ℕ → Bytes → ℕ → ℕ → Left
-leaving result used offset skipping limit area name_len value_len =
+-- the area with the lengths of the name and the value, and where the value is
+abbrev pub leaving : ℕ → ℕ → ℕ → ℕ → ℕ → Bytes → ℕ → ℕ → ℕ → Left
+leaving result used offset skipping limit area name_len value_len value_at =
     left_with result (record { limit = limit; offset = offset; skipping = skipping }) area
-    (record { used = used; name_len = name_len; value_len = value_len })
+    (record { used = used; name_len = name_len; value_len = value_len; value_at = value_at })

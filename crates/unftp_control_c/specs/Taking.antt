@@ -1,12 +1,12 @@
 -- What a caller of `unftp_next` does with a connection, call after call, and what it is given.
-use Rattle.std.specs.Prelude.{◌≡◌, ℕ, ◌+◌, ◌-◌, ◌==◌, ◌||◌, ◌⊎◌, Bool, if◌then◌else◌, List, [], ◌∷◌, ◌++◌, length, take, drop}
+use Rattle.std.specs.Prelude.{◌≡◌, ℕ, ◌+◌, ◌-◌, ◌==◌, ◌||◌, ◌⊎◌, Bool, if◌then◌else◌, List, [], ◌∷◌, ◌++◌, length, drop}
 use Rattle.unftp_control_defs.specs.Bytes.{Bytes}
 use Rattle.unftp_control_defs.specs.Events.{FaultKind}
 use Rattle.unftp_control_defs.specs.Events as fault
 use Rattle.unftp_control_c.specs.declared.next.Connection.{Connection}
 use Rattle.unftp_control_c.specs.declared.status.Status.TheVariants.{More, OutOfMemory, NoRoom}
 use Rattle.unftp_control_c.specs.Numbers.{status_number}
-use Rattle.unftp_control_c.specs.Next.{Call, Given, Leaves, Left, call_with, scans}
+use Rattle.unftp_control_c.specs.Next.{Call, Given, Leaves, Left, call_with, name_in, scans, value_in}
 
 -- what a caller has of a connection from call to call
 pub record Caller : Type 0 where
@@ -72,20 +72,17 @@ input_of (Called area left ∷ steps) = input_of steps
 abbrev pub gives_none : ℕ → Bool
 gives_none result = result == status_number More || is_made_again result
 
--- what a call gives: its result, and what it wrote to the area
-abbrev pub given_by : Left → List Given
-given_by left = if gives_none left.result
+-- what a call with these pending bytes gives: its result, its name, and its value
+abbrev pub given_by : Bytes → Left → List Given
+given_by bytes left = if gives_none left.result
     then []
-    else record {
-      number = left.result;
-      name = take left.line.name_len left.area;
-      value = take left.line.value_len (drop left.line.name_len left.area);
-    } ∷ []
+    else record { number = left.result; name = name_in left; value = value_in bytes left } ∷ []
 
-abbrev pub all_given : List CallerStep → List Given
-all_given [] = []
-all_given (Received piece ∷ steps) = all_given steps
-all_given (Called area left ∷ steps) = given_by left ++ all_given steps
+abbrev pub all_given : Caller → List CallerStep → List Given
+all_given caller [] = []
+all_given caller (Received piece ∷ steps) = all_given (after_piece caller piece) steps
+all_given caller (Called area left ∷ steps) =
+    given_by caller.bytes left ++ all_given (after_call caller left) steps
 
 -- A line that is refused with a fault of this kind is given this number; with no other kind a line
 -- is refused.

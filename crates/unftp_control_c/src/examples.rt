@@ -2,12 +2,13 @@
 #![tactic(auto, unfolding(unftp_control_defs::proofs::Computing::at_bytes))]
 
 ghost use Rattle.std.specs.Prelude.{◌≡◌, [], ◌∷◌, ◌++◌, Ok, Err, codes};
+ghost use Rattle.unftp_control_defs.specs.FtpCommand.{number};
 ghost use Rattle.unftp_control_defs.specs.FtpReply.{CodeAndMsg, MultiLine};
+ghost use Rattle.unftp_control_defs.specs.declared.verb.Verb.TheVariants as verb;
 ghost use Rattle.unftp_control_commands.specs.Areas.{HasText};
 ghost use Rattle.unftp_control_c.specs.CanonicalLines.{CanonicalMayTakeMemory, IsCanonical};
 ghost use Rattle.unftp_control_c.specs.ForwardedLines.{IsForwardedLine};
-ghost use Rattle.unftp_control_c.specs.Next.{Leaves, LineMayTakeMemory, next_of, scans};
-ghost use Rattle.unftp_control_c.specs.Numbers.{forward_status};
+ghost use Rattle.unftp_control_c.specs.Next.{AreTexts, HasTexts, Leaves, LineMayTakeMemory, next_of, scans, value_place};
 ghost use Rattle.unftp_control_c.specs.Rows.{a_call, leaving};
 ghost use Rattle.unftp_control_c.specs.Replies.{IsFoundText, found_text, reply_bytes, text_lines, text_reply};
 ghost use Rattle.unftp_control_c.specs.declared.status.Status.TheVariants.{InvalidCommand, InvalidEol, Malformed, More, NoLine, OutOfMemory, UnknownCode};
@@ -17,43 +18,66 @@ pub mod calls;
 pub mod parameters;
 pub mod sessions;
 
-use unftp_control_message::reply::error::ParseErrorKind;
-use unftp_control_write::ForwardError;
-
 /// Complete lines. `a_call` has the pending bytes, the offset, whether bytes were dropped, the
 /// limit and the area; `leaving` the result, how many bytes are used, the offset, whether bytes
-/// were dropped, the limit, and the area with the lengths of the name and the value.
+/// were dropped, the limit, the area with the lengths of the name and the value, and where the
+/// value is.
 pub fn lines_are_taken()
-    // of a limit of 8 bytes, the line has 8; the area has one byte more, and one less
-    ensures command { next_of (a_call (codes "RETR a\r\nQ") 0 0 8 (codes "......"))
-        ≡ leaving 14 8 0 0 8 (codes "RETRa.") 4 1 }
-    ensures no_room { next_of (a_call (codes "RETR a\r\nQ") 3 0 8 (codes "...."))
-        ≡ leaving 107 0 3 0 8 (codes "....") 4 1 }
-    ensures too_long { next_of (a_call (codes "RETR a\r\nQ") 0 0 7 (codes "....."))
-        ≡ leaving 105 8 0 0 7 (codes ".....") 0 0 }
+    // of a limit of 8 bytes, the line has 8; the value stays there
+    ensures command { next_of (a_call (codes "RETR a\r\nQ") 0 0 8 [])
+        ≡ leaving 14 8 0 0 8 [] 0 1 5 }
+    ensures too_long { next_of (a_call (codes "RETR a\r\nQ") 0 0 7 (codes "."))
+        ≡ leaving 105 8 0 0 7 (codes ".") 0 0 0 }
+    // the name is written in upper case, in an area that has a byte more
+    ensures name { next_of (a_call (codes "lang d\n") 0 0 0 (codes "....."))
+        ≡ leaving 44 7 0 0 0 (codes "LANG.") 4 1 5 }
+    // and so is a value that the line has in another form, in an area that has one less
+    ensures value { next_of (a_call (codes "auth tls\n") 0 0 0 (codes "...."))
+        ≡ leaving 35 9 0 0 0 (codes "TLS.") 0 3 0 }
+    ensures no_room { next_of (a_call (codes "auth tls\n") 3 0 0 (codes ".."))
+        ≡ leaving 107 0 3 0 0 (codes "..") 0 3 0 }
+{}
+
+/// Where a line has a value as it is: at its end, and not elsewhere in it.
+pub fn values_have_places()
+    ensures end { value_place (codes "REST +7\r\n") (codes "7") ≡ 6 }
+    ensures middle { value_place (codes "REST 07\r\n") (codes "0") ≡ 0 }
+    ensures bare_line_feed { value_place (codes "RETR a\n") (codes "a") ≡ 5 }
+    ensures of_the_end { value_place (codes "RETR a\r\n") (codes "a\r") ≡ 0 }
+    ensures whole_line { value_place (codes "a\n") (codes "a") ≡ 0 }
+    ensures longer { value_place (codes "a\n") (codes "aa") ≡ 0 }
+    ensures none { value_place (codes "NOOP\r\n") [] ≡ 0 }
+{}
+
+/// What is given as text, and as the bytes that were sent.
+pub fn some_values_are_texts()
+    ensures any_bytes { AreTexts (number verb.Stat) [] (255 ∷ []) }
+    ensures text { AreTexts (number verb.Retr) (codes "A") (codes "a") }
+    ensures ill_formed_value { ¬ AreTexts (number verb.Retr) [] (255 ∷ []) }
+    ensures ill_formed_name { ¬ AreTexts (number verb.Stat) (255 ∷ []) [] }
+    ensures no_command { HasTexts (codes "a") (leaving 101 0 1 0 0 [] 0 0 0) }
 {}
 
 /// Incomplete lines, and what is no call.
 pub fn bytes_are_kept()
-    ensures incomplete { next_of (a_call (codes "NOOP") 2 0 5 []) ≡ leaving 101 0 4 0 5 [] 0 0 }
+    ensures incomplete { next_of (a_call (codes "NOOP") 2 0 5 []) ≡ leaving 101 0 4 0 5 [] 0 0 0 }
     ensures too_long_already { next_of (a_call (codes "NOOP") 2 0 4 [])
-        ≡ leaving 101 4 0 1 4 [] 0 0 }
+        ≡ leaving 101 4 0 1 4 [] 0 0 0 }
     ensures offset_past_the_end { next_of (a_call (codes "\n") 2 0 0 [])
-        ≡ leaving 111 0 2 0 0 [] 0 0 }
+        ≡ leaving 111 0 2 0 0 [] 0 0 0 }
     ensures skipping_past_the_start { next_of (a_call (codes "a\n") 1 1 0 [])
-        ≡ leaving 111 0 1 1 0 [] 0 0 }
+        ≡ leaving 111 0 1 1 0 [] 0 0 0 }
 {}
 
 /// What a call leaves: what `next_of` says, or where memory may run out, nothing but that it has.
 pub fn calls_leave()
-    ensures line { Leaves (a_call (codes "NOOP\nQ") 0 0 0 (codes "...."))
-        (leaving 10 5 0 0 0 (codes "NOOP") 4 0) }
-    ensures line_not_used_up { ¬ Leaves (a_call (codes "NOOP\nQ") 0 0 0 (codes "...."))
-        (leaving 10 0 0 0 0 (codes "NOOP") 4 0) }
+    ensures line { Leaves (a_call (codes "NOOP\nQ") 0 0 0 []) (leaving 10 5 0 0 0 [] 0 0 0) }
+    ensures line_not_used_up { ¬ Leaves (a_call (codes "NOOP\nQ") 0 0 0 [])
+        (leaving 10 0 0 0 0 [] 0 0 0) }
     ensures memory { Leaves (a_call (codes "USER a\n") 3 0 0 [])
-        (leaving 106 0 3 0 0 [] 0 0) }
+        (leaving 106 0 3 0 0 [] 0 0 0) }
     ensures no_memory { ¬ Leaves (a_call (codes "NOOP\n") 0 0 0 [])
-        (leaving 106 0 0 0 0 [] 0 0) }
+        (leaving 106 0 0 0 0 [] 0 0 0) }
 {}
 
 /// How many bytes are scanned: from the offset up to a line feed, or to the end.
@@ -125,15 +149,7 @@ pub fn lines_are_forwarded()
     ensures other_parameter { ¬ IsForwardedLine (codes "type a\n") (Ok (codes "TYPE I\r\n")) }
     ensures no_line_feed { IsForwardedLine (codes "TYPE A") (Err NoLine) }
     ensures refusal { IsForwardedLine (codes "NOOP x\r\n") (Err InvalidCommand) }
-    ensures refused_value { ¬ IsForwardedLine (codes "NOOP a\r\n") (Err OutOfMemory) }
-{}
-
-/// What a caller in C is told where a line is not forwarded.
-pub fn errors_of_forwarding_have_numbers()
-    ensures not_a_line { forward_status ForwardError.NotALine ≡ NoLine }
-    ensures refusal { forward_status (ForwardError.Refused ParseErrorKind.InvalidEol)
-        ≡ InvalidEol }
-    ensures memory { forward_status ForwardError.OutOfMemory ≡ OutOfMemory }
+    ensures memory { ¬ IsForwardedLine (codes "NOOP\n") (Err OutOfMemory) }
 {}
 
 /// Lines for whose canonical lines memory may run out, and none.

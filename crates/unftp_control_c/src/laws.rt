@@ -25,7 +25,7 @@ ghost use Rattle.unftp_control_c.specs.Clients.{dialogue_of, may_begin_tls, new_
 ghost use Rattle.unftp_control_c.specs.ExchangeLines.{IsExchangeLine};
 ghost use Rattle.unftp_control_c.specs.LogLines.{IsLogLine, numbered_log_line};
 ghost use Rattle.unftp_control_c.specs.Logins.{Kept, decision_at, kept_after, kept_after_all, login_step, nobody, progress_of, stage_number, stage_of};
-ghost use Rattle.unftp_control_c.specs.Next.{Call, Given, Leaves, Left, given_for, line_limit, scans};
+ghost use Rattle.unftp_control_c.specs.Next.{Call, Given, Leaves, Left, given_for, line_limit, needed_room, scans};
 ghost use Rattle.unftp_control_c.specs.Numbers.{status_number};
 ghost use Rattle.unftp_control_c.specs.Parameters.{list_path_bytes, parameter_bytes};
 ghost use Rattle.unftp_control_c.specs.Replies.{IsFoundText, reply_bytes};
@@ -41,12 +41,13 @@ pub fn calls_take_events()
     // What was given so far is the first of them, and all of them where a call asks for more.
     ensures first { (limit : ℕ) (steps : List CallerStep) (after : Caller)
         → AreCallerSteps (new_caller limit) steps after
-        → (later : List Given) × (all_given steps ++ later
+        → (later : List Given) × (all_given (new_caller limit) steps ++ later
         ≡ map given_for (events (line_limit limit) (input_of steps))) }
     ensures all { (limit : ℕ) (steps : List CallerStep) (after : Caller) (area : Bytes)
         (left : Left) → AreCallerSteps (new_caller limit) steps after
         → Leaves (caller_call after area) left → left.result ≡ status_number More
-        → all_given steps ≡ map given_for (events (line_limit limit) (input_of steps)) }
+        → all_given (new_caller limit) steps
+        ≡ map given_for (events (line_limit limit) (input_of steps)) }
     // A call that uses nothing up asks for more, or has no room or no memory.
     ensures nothing_used { (limit : ℕ) (steps : List CallerStep) (after : Caller) (area : Bytes)
         (left : Left) → AreCallerSteps (new_caller limit) steps after
@@ -61,12 +62,14 @@ pub fn calls_are_made_again()
         → Leaves (caller_call caller area) left
         → (left.result ≡ status_number NoRoom) ⊎ (left.result ≡ status_number OutOfMemory)
         → after_call caller left ≡ caller }
-    // With an area of the lengths that a call without room reports, or a greater one, the next call
-    // gives the line, or has no memory.
+    // A call without room has too little; with as much as it reports, or more, the next call gives
+    // the line, or has no memory.
+    ensures too_little { (caller : Caller) (area : Bytes) (left : Left)
+        → Leaves (caller_call caller area) left → left.result ≡ status_number NoRoom
+        → length area < needed_room left.line }
     ensures room { (caller : Caller) (area wider : Bytes) (left again : Left)
         → Leaves (caller_call caller area) left → left.result ≡ status_number NoRoom
-        → left.line.name_len + left.line.value_len ≤ length wider
-        → Leaves (caller_call caller wider) again
+        → needed_room left.line ≤ length wider → Leaves (caller_call caller wider) again
         → (again.result ≡ status_number OutOfMemory) ⊎ (gives_none again.result ≡ false) }
 {}
 
@@ -143,16 +146,10 @@ pub fn rooms_are_bounded()
         → (written text out).text_length ≤ 49 }
 {}
 
-/// So much room the lines of a log need at most.
+/// So much room a log line needs at most: 4 bytes for each byte of the line, and 42.
 pub fn log_rooms_are_bounded()
-    // A log line has at most 4 bytes for each byte of the line, and 42.
-    ensures log_line { (number : ℕ) (line : Bytes) (bytes : Made) (out : Bytes)
+    ensures { (number : ℕ) (line : Bytes) (bytes : Made) (out : Bytes)
         → IsLogLine number line bytes → (written bytes out).text_length ≤ 4 * length line + 42 }
-    // The line of an exchange has at most the bytes of what is shown of the line, 4 bytes for each
-    // byte of the replies, and 3.
-    ensures exchange { (shown replies : Bytes) (bytes : Made) (out : Bytes)
-        → IsExchangeLine shown replies bytes
-        → (written bytes out).text_length ≤ length shown + 4 * length replies + 3 }
 {}
 
 /// A log line is that of the log of the library in Rattle, whose laws hold of it.

@@ -1,17 +1,20 @@
 //! The next event of the pending bytes.
-ghost use Rattle.std.specs.Prelude.{◌≡◌, IsTrue, [], true, false, length};
-ghost use Rattle.unftp_control_defs.specs.Bytes.{Bytes};
-ghost use Rattle.unftp_control_defs.specs.FtpCommand.{Nothing, Outcome};
+ghost use Rattle.std.specs.Prelude.{◌≡◌, ◌<◌, ◌≤◌, ◌+◌, ◌++◌, [], IsTrue, true, false, length};
+ghost use Rattle.unftp_control_codecs.specs.WordsMeaning.{EndsWith};
+ghost use Rattle.unftp_control_defs.specs.Bytes.{Bytes, crlf};
+ghost use Rattle.unftp_control_defs.specs.FtpCommand.{Nothing, Outcome, number};
 ghost use Rattle.unftp_control_defs.specs.Said.{IsSaid};
-ghost use Rattle.unftp_control_message.specs.PartsMeaning.{AreInPlace, IsInPlace, said_of, spelled};
-ghost use Rattle.unftp_control_c.specs.Next.{GivesCommand, Leaves, LeavesLine, call_with, codec_of, given_of, gives, is_valid, left_with, meant, no_lengths, resumed, scans, used_up};
+ghost use Rattle.unftp_control_defs.specs.Verbs.{upper};
+ghost use Rattle.unftp_control_commands.specs.Areas.{overwritten};
+ghost use Rattle.unftp_control_message.specs.PartsMeaning.{IsInPlace, said_of};
+ghost use Rattle.unftp_control_c.specs.Next.{GivesCommand, HasTexts, Leaves, LeavesLine, call_with, codec_of, given_of, gives, is_valid, left_with, line_text, meant, no_lengths, resumed, scans, used_up, value_place};
 
 use crate::status::{Status, kind_status};
 use itoa::Buffer;
 use std::alloc::Global;
-use unftp_control_codecs::line_parser::parts;
+use unftp_control_codecs::line_parser::Words;
 use unftp_control_codecs::{FirstLine, FtpCodec};
-use unftp_control_commands::pieces::overwrite_both;
+use unftp_control_commands::pieces::overwrite;
 use unftp_control_message::Command;
 use unftp_control_message::parts::{Parts, Value, Verb};
 
@@ -35,15 +38,17 @@ pub struct Line {
     pub used: usize,
     /// How long the command's name is, which the area begins with.
     pub name_len: usize,
-    /// How long the command's value is, which follows its name.
+    /// How long the command's value is.
     pub value_len: usize,
+    /// Where the value begins in the pending bytes; 0 where it follows the name in the area.
+    pub value_at: usize,
 }
 
-/// What a caller is given of a command.
+/// What a caller is given of a command: its name is in the case of the line.
 #[derive(Clone, Copy)]
 struct Given<'a> {
     number: u32,
-    name: &'a [u8],
+    name: &'a str,
     value: &'a [u8],
 }
 
@@ -56,13 +61,16 @@ pub extern "C" fn unftp_next(
     area: &mut [u8],
     line: &mut Line,
 ) -> u32
-    ensures { Leaves (call_with connection.old bytes.now area.old)
+    ensures leaves { Leaves (call_with connection.old bytes.now area.old)
         (left_with result connection.new area.new line.new) }
+    // A name is UTF-8, and so is a value, but of USER, PASS, ACCT and STAT.
+    ensures texts { HasTexts bytes.now (left_with result connection.new area.new line.new) }
 {
     *line = Line {
         used: 0,
         name_len: 0,
         value_len: 0,
+        value_at: 0,
     };
     if !is_valid(connection, bytes.len()) {
         return Status::InvalidArgument.number();
@@ -138,8 +146,18 @@ fn take_line(
     ensures { (pending : Bytes) → LeavesLine (call_with connection.old pending area.old) bytes.now
         (left_with result connection.new area.new line.new) }
 {
-    match parts(bytes) {
-        Ok(parts) => give_command(alloc, parts, bytes.len(), connection, area, line),
+    let words = match Words::of(bytes) {
+        Ok(words) => words,
+        Err(kind) => return report(kind_status(&kind), bytes.len(), codec, connection, line),
+    };
+    if let Some(verb) = words.lone_verb() {
+        return give_verb(verb, bytes, connection, line);
+    }
+    if let Some(value) = words.usual_value() {
+        return give_value(words.verb(), value, bytes, connection, line);
+    }
+    match words.parts() {
+        Ok(parts) => give_command(alloc, parts, bytes, connection, area, line),
         Err(kind) => report(kind_status(&kind), bytes.len(), codec, connection, line),
     }
 }
@@ -164,74 +182,106 @@ fn report(
     status.number()
 }
 
-/// Gives the command that parts are.
+/// Gives the verb of a line that says nothing else.
+#[inline(always)]
+fn give_verb(verb: Verb, bytes: &[u8], connection: &mut Connection, line: &mut Line) -> u32
+    requires { line.old ≡ no_lengths }
+    ensures { (pending area : Bytes) → left_with result connection.new area line.new
+        ≡ gives (call_with connection.old pending area) bytes.now
+        (given_of (record { verb = verb; name = []; value = Nothing })) }
+{
+    (line.used, connection.offset, connection.skipping) = (bytes.len(), 0, 0);
+    verb.number()
+}
+
+/// Gives the verb of a line, and its value, which is right before the line's CR LF.
+#[inline(always)]
+fn give_value(
+    verb: Verb,
+    value: &[u8],
+    bytes: &[u8],
+    connection: &mut Connection,
+    line: &mut Line,
+) -> u32
+    requires some { 0 < length value.now }
+    requires end { EndsWith bytes.now (value.now ++ crlf) }
+    ensures { (pending area : Bytes) → left_with result connection.new area line.new
+        ≡ gives (call_with connection.old pending area) bytes.now
+        (record { number = number verb; name = []; value = value.now }) }
+{
+    *line = Line {
+        used: bytes.len(),
+        name_len: 0,
+        value_len: value.len(),
+        value_at: bytes.len() - 2 - value.len(),
+    };
+    (connection.offset, connection.skipping) = (0, 0);
+    verb.number()
+}
+
+/// Gives the command that parts of the line are.
 #[inline(always)]
 fn give_command(
     alloc: Global,
     parts: Parts<'_>,
-    taken: usize,
+    bytes: &[u8],
     connection: &mut Connection,
     area: &mut [u8],
     line: &mut Line,
 ) -> u32
     requires { line.old ≡ no_lengths }
     ensures { (answer : Outcome) → IsSaid answer (said_of parts.entry)
-        → (pending : Bytes) → GivesCommand (call_with connection.old pending area.old) taken
-        answer (AreInPlace parts.entry) (left_with result connection.new area.new line.new) }
+        → (pending : Bytes) → GivesCommand (call_with connection.old pending area.old) bytes.now
+        answer (IsInPlace parts.entry.value)
+        (left_with result connection.new area.new line.new) }
 {
     if is_word(&parts) {
-        return give(given_for_word(parts.verb), taken, connection, area, line);
+        return give_verb(parts.verb, bytes, connection, line);
     }
-    if !parts.are_in_place() {
-        return give_made(alloc, parts, taken, connection, area, line);
+    if !parts.value.is_in_place() {
+        return give_made(alloc, parts, bytes, connection, area, line);
     }
     let mut digits = Buffer::new();
-    give(given_for(parts, &mut digits), taken, connection, area, line)
+    give(
+        given_of_parts(parts, &mut digits),
+        bytes,
+        connection,
+        area,
+        line,
+    )
 }
 
 /// Whether the parts have neither a name nor a value, so that their verb says all.
 #[inline(always)]
 fn is_word(parts: &Parts<'_>) -> bool
-    ensures { IsTrue result → spelled parts.now
+    ensures { IsTrue result → said_of parts.now
         ≡ record { verb = parts.now.verb; name = []; value = Nothing } }
 {
     matches!(parts.value, Value::None) && parts.name.is_empty()
 }
 
-/// What a caller is given for a verb that has neither a name nor a value.
-#[inline(always)]
-fn given_for_word(verb: Verb) -> Given<'static>
-    ensures { meant result ≡ given_of (record { verb = verb; name = []; value = Nothing }) }
-{
-    Given {
-        number: verb.number(),
-        name: verb.word().as_bytes(),
-        value: &[],
-    }
-}
-
-/// Gives the command that is made of parts, for the memory that it takes. It is for those that are
-/// not in the line as they are: for CR NUL in the value, for ill-formed UTF-8, and for a name in
-/// lower case.
+/// Gives the command that is made of parts, for the memory that it takes. It is for a value that
+/// has to be put together: for CR NUL in it, and for ill-formed UTF-8 in a text.
 #[inline(never)]
 fn give_made(
     alloc: Global,
     parts: Parts<'_>,
-    taken: usize,
+    bytes: &[u8],
     connection: &mut Connection,
     area: &mut [u8],
     line: &mut Line,
 ) -> u32
-    requires { line.old ≡ no_lengths }
+    requires lengths { line.old ≡ no_lengths }
+    requires made { ¬ IsInPlace parts.value }
     ensures { (answer : Outcome) → IsSaid answer (said_of parts.entry)
-        → (pending : Bytes) → GivesCommand (call_with connection.old pending area.old) taken
+        → (pending : Bytes) → GivesCommand (call_with connection.old pending area.old) bytes.now
         answer ⊥ (left_with result connection.new area.new line.new) }
 {
     match Command::from_parts(alloc, &parts) {
         Ok(command) => {
             let mut digits = Buffer::new();
-            let given = given_for(command.parts(), &mut digits);
-            let number = give(given, taken, connection, area, line);
+            let given = given_of_parts(command.parts(), &mut digits);
+            let number = give(given, bytes, connection, area, line);
             drop(command);
             number
         }
@@ -241,44 +291,87 @@ fn give_made(
 
 /// What a caller is given for parts; `digits` has room for those of a number.
 #[inline(always)]
-fn given_for<'a>(parts: Parts<'a>, digits: &'a mut Buffer) -> Given<'a>
+fn given_of_parts<'a>(parts: Parts<'a>, digits: &'a mut Buffer) -> Given<'a>
     requires { IsInPlace parts.value }
-    ensures { meant result ≡ given_of (spelled parts.entry) }
+    ensures { meant result ≡ given_of (said_of parts.entry) }
 {
-    let (name, value) = parts.word_and_value(digits);
     Given {
         number: parts.verb.number(),
-        name: name.as_bytes(),
-        value: value.unwrap_or(&[]),
+        name: parts.name,
+        value: parts.value.bytes(digits).unwrap_or(&[]),
     }
 }
 
-/// Writes the name and the value to the area, where it has room for both, and reports how long they
-/// are; the number of the command.
+/// Gives a line: writes its name, and its value where the line doesn't have it as it is, to the
+/// area, where that has room for both, and reports how long they are, and where the value is; the
+/// number of the command.
+#[inline(always)]
 fn give(
     given: Given<'_>,
-    taken: usize,
+    bytes: &[u8],
     connection: &mut Connection,
     area: &mut [u8],
     line: &mut Line,
 ) -> u32
-    ensures { (bytes : Bytes) → left_with result connection.new area.new line.new
-        ≡ gives (call_with connection.old bytes area.old) taken (meant given.entry) }
+    ensures { (pending : Bytes) → left_with result connection.new area.new line.new
+        ≡ gives (call_with connection.old pending area.old) bytes.now (meant given.entry) }
 {
     let Given {
         number,
         name,
         value,
     } = given;
+    let value_at = value_place(bytes, value);
     *line = Line {
         used: 0,
         name_len: name.len(),
         value_len: value.len(),
+        value_at,
     };
-    if name.len() + value.len() > area.len() {
+    let text = if value_at > 0 { &[] } else { value };
+    if name.len() + text.len() > area.len() {
         return Status::NoRoom.number();
     }
-    overwrite_both(name, value, area);
-    (line.used, connection.offset, connection.skipping) = (taken, 0, 0);
+    write_texts(name, text, area);
+    (line.used, connection.offset, connection.skipping) = (bytes.len(), 0, 0);
     number
+}
+
+/// The line without its end, CR LF or LF.
+#[inline(always)]
+pub fn line_text(line: &[u8]) -> &[u8]
+    ensures { result.now ≡ line_text line.now }
+{
+    let end = if line.ends_with(b"\r\n") { 2 } else { 1 };
+    let (text, _) = line.split_at(line.len().saturating_sub(end));
+    text
+}
+
+/// Where the line has the value as it is: right before its end, after another byte. Else it is 0.
+#[inline(always)]
+fn value_place(line: &[u8], value: &[u8]) -> usize
+    ensures { result ≡ value_place line.now value.now }
+{
+    let text = line_text(line);
+    if value.is_empty() || !text.ends_with(value) {
+        return 0;
+    }
+    text.len() - value.len()
+}
+
+/// Writes the name in upper case, and the text after it, to the start of the area, which has room
+/// for both.
+#[inline(always)]
+fn write_texts(name: &str, text: &[u8], area: &mut [u8])
+    requires { length name.now + length text.now ≤ length area.old }
+    ensures { area.new ≡ overwritten (upper name.now ++ text.now) area.old }
+{
+    let (front, rest) = area.split_at_mut(name.len());
+    if !name.is_empty() {
+        front.copy_from_slice(name.as_bytes());
+        front.make_ascii_uppercase();
+    }
+    if !text.is_empty() {
+        overwrite(text, rest);
+    }
 }

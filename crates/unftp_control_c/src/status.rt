@@ -1,9 +1,9 @@
 //! What a call reports to its caller.
 ghost use Rattle.std.specs.Prelude.{◌≡◌};
-ghost use Rattle.unftp_control_c.specs.Numbers.{status_number, forward_status, kind_status, line_status};
+ghost use Rattle.unftp_control_c.specs.Numbers.{status_number, kind_status, line_status};
 
 use unftp_control_message::reply::error::ParseErrorKind;
-use unftp_control_write::{ForwardError, WriteCommandError};
+use unftp_control_write::WriteCommandError;
 
 /// What a call reports where it gives no command.
 #[derive(Clone, Copy)]
@@ -68,16 +68,5 @@ pub fn line_status(error: &WriteCommandError) -> Status
     match error {
         WriteCommandError::NoLine => Status::NoLine,
         WriteCommandError::OutOfMemory => Status::OutOfMemory,
-    }
-}
-
-/// Why a line is not forwarded.
-pub fn forward_status(error: &ForwardError) -> Status
-    ensures { result ≡ forward_status error.now }
-{
-    match error {
-        ForwardError::NotALine => Status::NoLine,
-        ForwardError::Refused(refused) => kind_status(refused.kind()),
-        ForwardError::OutOfMemory => Status::OutOfMemory,
     }
 }

@@ -5,7 +5,7 @@ ghost use Rattle.std.specs.Prelude.{◌≡◌};
 /// the minor times 1,000, and the patch.
 #[unsafe(no_mangle)]
 pub extern "C" fn unftp_version() -> u32
-    ensures { result ≡ 3000 }
+    ensures { result ≡ 4000 }
 {
-    3_000
+    4_000
 }

@@ -2,10 +2,10 @@
  * Makes the calls of unftp_control.h over the inputs on standard input, each with its length before
  * it, as four bytes with the least first. Checks what the header says of rooms and lengths: each
  * call with no room at all, with one byte less than it asks for, and with enough; the bounds on
- * what it asks for; what it leaves as it was; and that what is written is read back. Checks by
- * tables what it says of replies, log lines, clients, logins and addresses. Each area has no byte
- * more than its call is told, so that valgrind finds what is written past it. Prints how many
- * inputs there were, and of what kind.
+ * what it asks for; what it leaves as it was; where a value is; and that what is written is read
+ * back. Checks by tables what it says of names and values, replies, log lines, clients, logins and
+ * addresses. Each area has no byte more than its call is told, so that valgrind finds what is
+ * written past it. Prints how many inputs there were, and of what kind.
  */
 #include <unftp_control.h>
 
@@ -26,11 +26,21 @@ struct bytes {
     size_t len;
 };
 
-/* What was taken of an input: the name and the value are in the area. */
+/* What was taken of an input: the name is in the area, and the value there or in the input. */
 struct taken {
     enum unftp_result result;
     struct unftp_line line;
+    const char *value;
     struct bytes area;
+};
+
+/* A line, what it is taken as, and where its value is: 0 where that is in the area, or empty. */
+struct place {
+    const char *line;
+    size_t len;
+    enum unftp_result result;
+    const char *name, *value;
+    size_t value_at;
 };
 
 /* What was read of a text: the host is in the area. */
@@ -114,6 +124,17 @@ static bool is_command(enum unftp_result result)
     return result >= UNFTP_USER && result <= UNFTP_OTHER;
 }
 
+static bool has_lengths(struct unftp_line line, size_t name_len, size_t value_len, size_t value_at)
+{
+    return line.name_len == name_len && line.value_len == value_len && line.value_at == value_at;
+}
+
+/* How much room a line needs: none for a value that stays in the line. */
+static size_t needed_room(struct unftp_line line)
+{
+    return line.name_len + (line.value_at != 0 ? 0 : line.value_len);
+}
+
 static bool are_same(struct unftp_connection left, struct unftp_connection right)
 {
     return left.limit == right.limit && left.offset == right.offset
@@ -136,35 +157,86 @@ static struct unftp_line lack_room(struct unftp_connection *connection, const ch
     return line;
 }
 
+/* Where a line's text ends with these bytes, after another byte; else 0. */
+static size_t place_in(const char *line, size_t used, const char *value, size_t len)
+{
+    size_t end = used > 1 && line[used - 2] == '\r' ? used - 2 : used - 1;
+
+    return len > 0 && len < end && memcmp(line + end - len, value, len) == 0 ? end - len : 0;
+}
+
+/* Whether the line has these bytes here, in letters of any case, and the name in upper case. */
+static bool is_upper_of(const char *name, size_t len, const char *line)
+{
+    for (size_t at = 0; at < len; at++) {
+        bool is_lower = line[at] >= 'a' && line[at] <= 'z';
+        if (name[at] != (is_lower ? (char)(line[at] - 'a' + 'A') : line[at]))
+            return false;
+    }
+    return true;
+}
+
+/* Only a name that the number doesn't say is in the area, and only a value that the line doesn't
+   have right before its end. */
+static void check_taken(const char *bytes, struct taken taken)
+{
+    struct unftp_line line = taken.line;
+    size_t name_at = taken.result == UNFTP_SITE ? 5 : 0;
+
+    if (!is_command(taken.result)) {
+        wants(has_lengths(line, 0, 0, 0), "what is no command has no name and no value");
+        return;
+    }
+    wants(line.name_len == 0 || taken.result == UNFTP_SITE || taken.result == UNFTP_OTHER,
+          "only SITE and another verb have a name");
+    wants(is_upper_of(taken.area.at, line.name_len, bytes + name_at),
+          "a name is that of its line, in upper case");
+    wants(line.value_at == place_in(bytes, line.used, taken.value, line.value_len),
+          "a value is in its line exactly where that ends with it");
+    wants(taken.value == (line.value_at != 0 ? bytes + line.value_at
+                                             : taken.area.at + line.name_len),
+          "a value is in the line, or after the name");
+    wants(needed_room(line) <= 3 * line.used, "a line of n bytes needs at most 3 n");
+}
+
 /* Takes the next line with just enough room. */
 static struct taken take(struct unftp_connection *connection, const char *bytes, size_t len)
 {
     struct unftp_connection before = *connection;
+    struct unftp_line needed;
     struct taken taken;
     size_t room;
 
     taken.area = area_of(0);
     taken.result = unftp_next(connection, bytes, len, taken.area.at, 0, &taken.line);
-    if (taken.result != UNFTP_NO_ROOM)
-        return taken;
-    wants(are_same(*connection, before), "unftp_next with no room at all changes nothing");
-    room = taken.line.name_len + taken.line.value_len;
-    taken.line = lack_room(connection, bytes, len, room - 1);
-    wants(room == taken.line.name_len + taken.line.value_len, "it asks for the same room again");
-    free_area(taken.area);
-    taken.area = area_of(room);
-    taken.result = unftp_next(connection, bytes, len, taken.area.at, room, &taken.line);
-    wants(is_command(taken.result) && room == taken.line.name_len + taken.line.value_len,
-          "unftp_next has just enough room");
-    wants(room <= 3 * taken.line.used, "a line of n bytes needs at most 3 n");
+    if (taken.result == UNFTP_NO_ROOM) {
+        needed = taken.line;
+        room = needed_room(needed);
+        wants(needed.used == 0 && room > 0 && are_same(*connection, before),
+              "unftp_next with no room at all changes nothing");
+        taken.line = lack_room(connection, bytes, len, room - 1);
+        wants(has_lengths(taken.line, needed.name_len, needed.value_len, needed.value_at),
+              "it asks for the same room again");
+        free_area(taken.area);
+        taken.area = area_of(room);
+        taken.result = unftp_next(connection, bytes, len, taken.area.at, room, &taken.line);
+        wants(is_command(taken.result)
+                  && has_lengths(taken.line, needed.name_len, needed.value_len, needed.value_at),
+              "unftp_next has just enough room");
+    }
+    wants(taken.area.len == needed_room(taken.line), "a line that needs no room is taken without");
+    taken.value = unftp_value(&taken.line, bytes, taken.area.at);
+    check_taken(bytes, taken);
     return taken;
 }
 
+/* Whether two lines are the same command; their values may be at different places. */
 static bool are_equal(struct taken left, struct taken right)
 {
     return left.result == right.result && left.line.name_len == right.line.name_len
         && left.line.value_len == right.line.value_len
-        && memcmp(left.area.at, right.area.at, left.area.len) == 0;
+        && memcmp(left.area.at, right.area.at, left.line.name_len) == 0
+        && memcmp(left.value, right.value, left.line.value_len) == 0;
 }
 
 /* Writes a line with just enough room, at most this: it is read as the line that it is of. */
@@ -227,7 +299,6 @@ static struct bytes value_of(line_call call, const char *line, size_t used, bool
    end. */
 static void check_parameter(const char *line, struct taken taken)
 {
-    const char *given = taken.area.at + taken.line.name_len;
     enum unftp_result number = taken.result;
     bool has_value, has_path;
     struct bytes value = value_of(unftp_parameter, line, taken.line.used, &has_value);
@@ -239,7 +310,7 @@ static void check_parameter(const char *line, struct taken taken)
     if (number == UNFTP_USER || number == UNFTP_PASS || number == UNFTP_ACCT
         || number == UNFTP_STAT)
         wants(has_value && value.len == taken.line.value_len
-                  && memcmp(value.at, given, value.len) == 0,
+                  && memcmp(value.at, taken.value, value.len) == 0,
               "a command's value is that of its line");
     free_area(value);
     free_area(path);
@@ -308,7 +379,8 @@ static void check_cuts(const char *bytes, struct taken wanted)
     struct unftp_connection exact = {used, 0, 0}, small = {used - 1, 0, 0}, parts = {0, 0, 0};
     struct taken taken = take(&exact, bytes, used);
 
-    wants(are_equal(taken, wanted), "a line of as many bytes as the limit");
+    wants(are_equal(taken, wanted) && taken.line.value_at == wanted.line.value_at,
+          "a line of as many bytes as the limit");
     free_area(taken.area);
     if (used > 1) {
         taken = take(&small, bytes, used);
@@ -321,7 +393,9 @@ static void check_cuts(const char *bytes, struct taken wanted)
           "a line without its end");
     free_area(taken.area);
     taken = take(&parts, bytes, used);
-    wants(are_equal(taken, wanted) && parts.offset == 0, "a line that has come in two parts");
+    wants(are_equal(taken, wanted) && taken.line.value_at == wanted.line.value_at
+              && parts.offset == 0,
+          "a line that has come in two parts");
     free_area(taken.area);
 }
 
@@ -515,6 +589,107 @@ static void check_texts(void)
     }
     wants(unftp_reply_lines("a\r\n", 3, lines, sizeof lines, &len) == UNFTP_MALFORMED && len == 0,
           "what opens no reply has no lines");
+}
+
+/* Takes a line with more room than it needs: no byte after what is written changes. */
+static void take_into_more(const char *bytes, struct taken wanted)
+{
+    struct unftp_connection connection = {0, 0, 0};
+    struct bytes area = area_of(wanted.area.len + 3), rest = {area.at + wanted.area.len, 3};
+    struct unftp_line line;
+
+    wants(unftp_next(&connection, bytes, wanted.line.used, area.at, area.len, &line)
+                  == wanted.result
+              && memcmp(area.at, wanted.area.at, wanted.area.len) == 0 && is_filling(rest),
+          "only what the line doesn't have as it is is written");
+    free_area(area);
+}
+
+/* Takes a line of a table, after a byte that is no part of it. */
+static void check_place(const struct place *place)
+{
+    struct unftp_connection connection = {0, 0, 0};
+    struct bytes block = area_of(place->len + 1);
+    size_t name_len = strlen(place->name), value_len = strlen(place->value);
+    size_t room = name_len + (place->value_at != 0 ? 0 : value_len);
+    struct taken taken;
+
+    memcpy(block.at + 1, place->line, place->len);
+    taken = take(&connection, block.at + 1, place->len);
+    wants(taken.result == place->result && taken.line.used == place->len, place->line);
+    wants(has_lengths(taken.line, name_len, value_len, place->value_at), place->line);
+    wants(taken.area.len == room && memcmp(taken.area.at, place->name, name_len) == 0
+              && memcmp(taken.value, place->value, value_len) == 0,
+          place->line);
+    wants(place->value_at == 0 || taken.value == block.at + 1 + place->value_at, place->line);
+    take_into_more(block.at + 1, taken);
+    free_area(taken.area);
+    free_area(block);
+}
+
+/* Where the values of lines are, and which lines have a name. */
+static const struct place places[] = {
+    {"RETR a.txt\r\n", 12, UNFTP_RETR, "", "a.txt", 5},
+    {"retr a.txt\n", 11, UNFTP_RETR, "", "a.txt", 5},
+    {"XCWD a\r\n", 8, UNFTP_CWD, "", "a", 5},
+    {"RETR  a\r\n", 9, UNFTP_RETR, "", " a", 5},
+    {"RETR\ra\r\n", 8, UNFTP_RETR, "", "a", 5},
+    {"LIST -la x\r\n", 12, UNFTP_LIST, "", "x", 9},
+    {"USER \xff\r\n", 8, UNFTP_USER, "", "\xff", 5},
+    {"PASS a b\r\n", 10, UNFTP_PASS, "", "a b", 5},
+    {"STAT \xc3\xa9\n", 8, UNFTP_STAT, "", "\xc3\xa9", 5},
+    {"PASS \r\r\n", 8, UNFTP_PASS, "", "\r", 5},
+    {"REST 5\r\n", 8, UNFTP_REST, "", "5", 5},
+    {"REST +5\r\n", 9, UNFTP_REST, "", "5", 6},
+    {"rest 0070\r\n", 11, UNFTP_REST, "", "70", 7},
+    {"MODE S\r\n", 8, UNFTP_MODE, "", "S", 5},
+    {"PBSZ 0\r\n", 8, UNFTP_PBSZ, "", "0", 5},
+    {"OPTS UTF8 ON\r\n", 14, UNFTP_OPTS, "", "UTF8 ON", 5},
+    {"auth TLS\r\n", 10, UNFTP_AUTH, "", "TLS", 5},
+    {"site md5 a\r\n", 12, UNFTP_MD5, "", "a", 9},
+    /* in the area */
+    {"auth tls\r\n", 10, UNFTP_AUTH, "", "TLS", 0},
+    {"AUTH Ssl\n", 9, UNFTP_AUTH, "", "SSL", 0},
+    {"opts utf8 on\r\n", 14, UNFTP_OPTS, "", "UTF8 ON", 0},
+    {"OPTS utf8 off\r\n", 15, UNFTP_OPTS, "", "UTF8 OFF", 0},
+    {"RETR a\r\0b\r\n", 11, UNFTP_RETR, "", "a\rb", 0},
+    {"USER a\r\0b\r\n", 11, UNFTP_USER, "", "a\rb", 0},
+    {"PASS \r\0\r\n", 9, UNFTP_PASS, "", "\r", 0},
+    {"RETR \xe9\r\n", 8, UNFTP_RETR, "", "\xef\xbf\xbd", 0},
+    {"CWD \xff\r\0a\r\n", 10, UNFTP_CWD, "", "\xef\xbf\xbd\ra", 0},
+    /* a name, and a value in the line, in the area or none */
+    {"SITE CHMOD 644 a\r\n", 18, UNFTP_SITE, "CHMOD", "644 a", 11},
+    {"site chmod 644 a\n", 17, UNFTP_SITE, "CHMOD", "644 a", 11},
+    {"site chmod \xe9\r\n", 14, UNFTP_SITE, "CHMOD", "\xef\xbf\xbd", 0},
+    {"SITE ChMod a\r\0\r\n", 16, UNFTP_SITE, "CHMOD", "a\r", 0},
+    {"SITE HELP\r\n", 11, UNFTP_SITE, "HELP", "", 0},
+    {"site help\r\n", 11, UNFTP_SITE, "HELP", "", 0},
+    {"SITE help \r\n", 12, UNFTP_SITE, "HELP", "", 0},
+    {"SITE\r\n", 6, UNFTP_SITE, "", "", 0},
+    {"SITE  a\r\n", 9, UNFTP_SITE, "", "a", 6},
+    {"EPRT |1|a|\r\n", 12, UNFTP_OTHER, "EPRT", "|1|a|", 5},
+    {"eprt |1|a|\n", 11, UNFTP_OTHER, "EPRT", "|1|a|", 5},
+    {"Lang \xe9\r\n", 8, UNFTP_OTHER, "LANG", "\xef\xbf\xbd", 0},
+    {"lang a\r\0b\r\n", 11, UNFTP_OTHER, "LANG", "a\rb", 0},
+    {"REIN\r\n", 6, UNFTP_OTHER, "REIN", "", 0},
+    {"rein\r\n", 6, UNFTP_OTHER, "REIN", "", 0},
+    {"pa\xc3\x9f\n", 5, UNFTP_OTHER, "PA\xc3\x9f", "", 0},
+    {"\r\n", 2, UNFTP_OTHER, "", "", 0},
+    {" a\r\n", 4, UNFTP_OTHER, "", "a", 1},
+    /* no name, and no value: none is there, or it is ignored */
+    {"NOOP\r\n", 6, UNFTP_NOOP, "", "", 0},
+    {"bye\n", 4, UNFTP_QUIT, "", "", 0},
+    {"type a\r\n", 8, UNFTP_TYPE, "", "", 0},
+    {"EPSV ALL\r\n", 10, UNFTP_EPSV, "", "", 0},
+    {"PASS \r\n", 7, UNFTP_PASS, "", "", 0},
+    {"LIST -la\r\n", 10, UNFTP_LIST, "", "", 0},
+    {"NOOP x\r\n", 8, UNFTP_INVALID_COMMAND, "", "", 0},
+};
+
+static void check_places(void)
+{
+    for (size_t at = 0; at < sizeof places / sizeof places[0]; at++)
+        check_place(&places[at]);
 }
 
 /* What a log shows of commands: nothing of a password or an account, also where it is a verb. */
@@ -1050,7 +1225,7 @@ static void check_arguments(void)
             unftp_next(&connection, bytes, sizeof bytes - 1, area.at, area.len, &line);
         wants(result == UNFTP_INVALID_ARGUMENT, "an invalid argument");
         wants(are_same(connection, wrong[at]) && is_filling(area), "what it leaves as it was");
-        wants(line.used == 0 && line.name_len == 0 && line.value_len == 0, "what it reports");
+        wants(line.used == 0 && has_lengths(line, 0, 0, 0), "what it reports");
     }
     wants(unftp_reply(99, "", 0, area.at, area.len, &len) == UNFTP_UNKNOWN_CODE && len == 0
               && unftp_reply(600, "", 0, area.at, area.len, &len) == UNFTP_UNKNOWN_CODE && len == 0
@@ -1081,6 +1256,7 @@ int main(void)
     current = &input;
     check_arguments();
     check_texts();
+    check_places();
     check_log_lines();
     check_replies();
     check_tls();

@@ -27,6 +27,7 @@ static void answer_lines(void)
 {
     enum unftp_result result;
     struct unftp_line line;
+    bool is_over;
     char area[3 * LIMIT];
 
 #include "loop.inc"
@@ -34,7 +35,8 @@ static void answer_lines(void)
 
 int main(void)
 {
-    static const char received[] = "noop\r\nretr a.txt, which is too long\r\nretr b\r\n";
+    static const char received[] =
+        "noop\r\nretr a.txt, which is too long\r\nretr b\r\nxa \xff\r\nSITE\ry\n";
 
     for (const char *byte = received; *byte != '\0'; byte++) {
         if (end == sizeof bytes)

@@ -28,8 +28,8 @@ struct words {
 
 typedef enum unftp_result (*line_call)(const char *, size_t, char *, size_t, size_t *);
 
-/* The variant of each command with its fields: %n is its name, %v its value, %o the same or None, %p
-   without quotes, and %w what the value says. */
+/* The variant of each command with its fields: %n is its name in the area, %v its value, %o the
+   same or None, %p without quotes, and %w what the value says. */
 static const char *const commands[] = {
     [UNFTP_USER] = "User username=%v", [UNFTP_PASS] = "Pass password=%v",
     [UNFTP_ACCT] = "Acct account=%v", [UNFTP_SYST] = "Syst", [UNFTP_STAT] = "Stat path=%o",
@@ -221,7 +221,8 @@ static bool show_next(struct unftp_connection *connection, struct bytes *pending
     struct unftp_line line;
     enum unftp_result result
         = unftp_next(connection, pending->at, pending->len, area, room, &line);
-    struct bytes name = {area, line.name_len}, value = {area + line.name_len, line.value_len};
+    struct bytes name = {area, line.name_len},
+                 value = {(char *)unftp_value(&line, pending->at, area), line.value_len};
 
     if (result >= UNFTP_USER && result <= UNFTP_OTHER)
         show_command(result, name, value);

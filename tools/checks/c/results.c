@@ -12,7 +12,7 @@ typedef char result_is_a_u32[sizeof(enum unftp_result) == sizeof(uint32_t) ? 1 :
 typedef char to_is_a_u32[sizeof(enum unftp_to) == sizeof(uint32_t) ? 1 : -1];
 typedef char step_is_a_u32[sizeof(enum unftp_login_step) == sizeof(uint32_t) ? 1 : -1];
 typedef char connection[offsetof(struct unftp_connection, skipping) == 2 * sizeof(size_t) ? 1 : -1];
-typedef char line[offsetof(struct unftp_line, value_len) == 2 * sizeof(size_t) ? 1 : -1];
+typedef char line[offsetof(struct unftp_line, value_at) == 3 * sizeof(size_t) ? 1 : -1];
 typedef char found_reply[offsetof(struct unftp_found_reply, code) == sizeof(size_t) ? 1 : -1];
 typedef char client[
     offsetof(struct unftp_client, agreed) == 3 * sizeof(uint64_t) + 2 * sizeof(uint32_t) ? 1 : -1];
@@ -22,7 +22,7 @@ typedef char address[offsetof(struct unftp_address, port) == sizeof(size_t) ? 1 
 int main(void)
 {
     printf("%lu\n", (unsigned long)unftp_version());
-    for (int number = 0; number < 256; number++)
-        printf("%d\t%s\n", number, unftp_result_text((enum unftp_result)number));
+    for (uint32_t number = 0; number < 256; number++)
+        printf("%u\t%s\n", (unsigned)number, unftp_result_text(number));
     return 0;
 }

@@ -1,11 +1,17 @@
 use Rattle.std.proofs.Common.{◌≡◌, codes, [], refl, ap, ◌∙◌, get_or, arith}
-use Rattle.std.proofs.lemmas.Bool.{false≢true}
 use Rattle.std.specs.Str.{is_utf8, chars}
 use Rattle.std.specs.Str.Lossy.{utf8_lossy, utf8_valid_len, utf8_error_len}
-use Rattle.unftp_control_defs.specs.FtpCommand.{FtpCommand, TypeCode, InvalidCommand}
+use Rattle.unftp_control_defs.specs.FtpCommand.{FtpCommand, TypeCode, Refusal, InvalidCommand, InvalidEol, InvalidUtf8}
 use Rattle.unftp_control_defs.specs.Forwarded.{forwarded_line}
 use Rattle.unftp_control_defs.proofs.LineLemmas.{line_first}
+use Rattle.unftp_control_c.specs.Numbers.{refusal_status}
+use Rattle.unftp_control_c.specs.declared.status.Status.TheVariants.{OutOfMemory}
 use Rattle.unftp_control_c.proofs.examples.lines_are_forwarded.Goals as goal
+
+not_memory : (refusal : Refusal) → OutOfMemory ≡ refusal_status refusal → ⊥
+not_memory InvalidCommand e = cc
+not_memory InvalidUtf8 e = cc
+not_memory InvalidEol e = cc
 
 kept : (command : FtpCommand) → forwarded_line (codes "type a\n") command ≡ codes "TYPE a\r\n"
 kept command = refl
@@ -18,5 +24,5 @@ returns c = record {
       omega (arith, byte);
   no_line_feed = λ line. let all = (line_first (codes "TYPE A") [] line).0 in cc;
   refusal = (InvalidCommand, refl, refl);
-  refused_value = λ is. false≢true is;
+  memory = λ out. not_memory out.0 out.2;
 }

@@ -1,34 +1,55 @@
-use Rattle.std.proofs.Common.{◌≡◌, sym, ap, subst, ◌∙◌}
+use Rattle.std.proofs.Common.{Ok, Err, refl, sym, ap, subst, ◌∙◌}
+use Rattle.std.proofs.lemmas.Bool.{false≢true}
+use Rattle.unftp_control_defs.specs.Lines.{IsLine}
 use Rattle.unftp_control_defs.specs.Outcome.{outcome}
-use Rattle.unftp_control_c.specs.declared.status.Status.TheVariants.{NoLine, OutOfMemory}
-use Rattle.unftp_control_c.specs.Areas.{written}
-use Rattle.unftp_control_c.specs.ForwardedLines.{IsForwardedLine}
-use Rattle.unftp_control_c.proofs.AreaLemmas.{made_text, why_none, written_text}
-use Rattle.unftp_control_c.proofs.CanonicalLineLemmas.{not_done}
+use Rattle.unftp_control_write.specs.Forwarding.{sent_line}
+use Rattle.unftp_control_c.specs.Next.{line_text}
+use Rattle.unftp_control_c.specs.Numbers.{kind_status, status_number}
+use Rattle.unftp_control_c.specs.declared.status.Status.TheVariants.{NoLine}
+use Rattle.unftp_control_c.proofs.AreaLemmas.{filled_done}
+use Rattle.unftp_control_c.proofs.ForwardedLineLemmas.{one_line, read_back, refused, sent_is}
 use Rattle.unftp_control_c.proofs.forwarding.unftp_forward.Goals as goal
 
-pub returns-clause-is_line : goal.returns-clause-is_line
-returns-clause-is_line c = λ is_line none.
-    let why = why_none _ c.args.out.now NoLine (λ e. cc) (λ e. cc)
-    (sym (ap (λ filled. filled.result) c.write.ensures) ∙ none) in
-    subst (IsForwardedLine c.args.line.now) why c.forwarded_line.ensures.forwarded is_line
+pub returns-then-not-is_line-clause-writes : goal.returns-then-not-is_line-clause-writes
+returns-then-not-is_line-clause-writes c = (
+  Err NoLine,
+  λ is. false≢true (c.if-not-is_line.ensures.1 is),
+  λ i. record { result = c.number.ensures i; area = c.args.out.now; text_length = 0 },
+)
 
-pub returns-clause-not_a_line : goal.returns-clause-not_a_line
-returns-clause-not_a_line c = λ not. ap (λ filled. filled.result) c.write.ensures
-    ∙ ap (λ bytes. (written bytes c.args.out.now).result) (c.forwarded_line.ensures.not_a_line not)
+pub returns-in-Ok-clause-writes : goal.returns-in-Ok-clause-writes
+returns-in-Ok-clause-writes c =
+    let line = c.args.line.now in
+    let parts = c.in-Ok.parts in (
+      Ok (sent_line (line_text line) parts.verb parts.value),
+      sent_is line (c.if-not-is_line.ensures.0 refl) parts c.in-Ok.ensures.0,
+      rw c.line_text.ensures at c.write_sent.ensures,
+    )
 
-pub returns-clause-memory : goal.returns-clause-memory
-returns-clause-memory c = λ out.
-    let why = why_none _ c.args.out.now OutOfMemory (λ e. cc) (λ e. cc)
-    (sym (ap (λ filled. filled.result) c.write.ensures) ∙ out) in
-    subst (IsForwardedLine c.args.line.now) why c.forwarded_line.ensures.forwarded
-
-pub returns-clause-read_back : goal.returns-clause-read_back
-returns-clause-read_back c = λ done.
-    let left = c.write.ensures in
+pub returns-in-Ok-clause-one_line : goal.returns-in-Ok-clause-one_line
+returns-in-Ok-clause-one_line c = λ done.
+    let line = c.args.line.now in
+    let parts = c.in-Ok.parts in
+    let left = rw c.line_text.ensures at c.write_sent.ensures in
     rw (ap (λ filled. filled.text_length) left, ap (λ filled. filled.area) left)
-    (written_text (λ text. outcome text ≡ outcome c.args.line.now) c.args.out.now _
-    (λ e. let refused = subst (IsForwardedLine c.args.line.now) e c.forwarded_line.ensures.forwarded
-    in not_done refused.0 refused.2)
-    (made_text (λ text. outcome text ≡ outcome c.args.line.now) c.forwarded_line.result
-    c.forwarded_line.ensures.read_back) (sym (ap (λ filled. filled.result) left) ∙ done))
+    (subst IsLine (sym (filled_done (sent_line (line_text line) parts.verb parts.value)
+    c.args.out.now (sym (ap (λ filled. filled.result) left) ∙ done)))
+    (one_line line (c.if-not-is_line.ensures.0 refl) parts c.in-Ok.ensures.0))
+
+pub returns-in-Ok-clause-read_back : goal.returns-in-Ok-clause-read_back
+returns-in-Ok-clause-read_back c = λ done.
+    let line = c.args.line.now in
+    let parts = c.in-Ok.parts in
+    let left = rw c.line_text.ensures at c.write_sent.ensures in
+    rw (ap (λ filled. filled.text_length) left, ap (λ filled. filled.area) left)
+    (ap outcome (filled_done (sent_line (line_text line) parts.verb parts.value) c.args.out.now
+    (sym (ap (λ filled. filled.result) left) ∙ done))
+    ∙ read_back line (c.if-not-is_line.ensures.0 refl) parts c.in-Ok.ensures.0)
+
+pub returns-in-Err-clause-writes : goal.returns-in-Err-clause-writes
+returns-in-Err-clause-writes c =
+    let status = c.number-in-Err.ensures ∙ ap status_number c.kind_status.ensures in (
+      Err (kind_status c.in-Err.kind),
+      refused c.args.line.now c.in-Err.kind c.in-Err.ensures,
+      λ i. record { result = status i; area = c.args.out.now; text_length = 0 },
+    )

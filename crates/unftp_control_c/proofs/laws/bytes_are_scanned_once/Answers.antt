@@ -33,12 +33,12 @@ module _ (now : Caller) (ok : Valid now) (area : Bytes) where
       let ends = first.ends in
       let once = once_given (given_for first.event).number first.some in record {
         valid = valid_resumed now.connection (reset (codec_of now.connection))
-            (length (drop first.n now.bytes)) (omega arith) (λ on. refl);
+            (length (drop (length first.line) now.bytes)) (omega arith) (λ on. refl);
         count = rw once (omega (
           arith,
           ends.counted,
           ends.within,
-          length-drop first.n now.bytes,
+          length-drop (length first.line) now.bytes,
           offset_within call ok,
         ));
       }

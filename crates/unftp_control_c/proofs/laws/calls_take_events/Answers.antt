@@ -71,7 +71,7 @@ module _ {limit : Option ℕ} (now : Caller) (dropped : Bytes) (kept_so : IsKept
   unchanged = record { rest = dropped; rest_kept = kept_so; in_order = λ more. refl }
 
   does : (left : Left) → NextLeft call left
-      → Does limit (dropped ++ now.bytes) (given_by left) (after_call now left)
+      → Does limit (dropped ++ now.bytes) (given_by now.bytes left) (after_call now left)
   does _ (invalid not_valid) = absurd (false≢true (sym not_valid ∙ kept_so.valid))
   does _ (asks n ok found) =
       let none = subst (Finds (codec_of now.connection) dropped now.bytes (next_codec call)) found
@@ -93,7 +93,7 @@ module _ {limit : Option ℕ} (now : Caller) (dropped : Bytes) (kept_so : IsKept
       }
   does _ (gave first room) = rw (given_is first, sym kept_so.limited) (record {
     rest = [];
-    rest_kept = kept_from_start now.connection (drop first.n now.bytes);
+    rest_kept = kept_from_start now.connection (drop (length first.line) now.bytes);
     in_order = λ more.
         ap (map given_for) (sym (TakesEvent-events (first.takes dropped found_now) more));
   })
@@ -105,7 +105,7 @@ record Run (limit : Option ℕ) (steps : List CallerStep) (now after : Caller)
     (dropped : Bytes) : Type 0 where
   rest : Bytes
   rest_kept : IsKept limit after rest
-  in_order : all_given steps ++ map given_for (events limit (rest ++ after.bytes))
+  in_order : all_given now steps ++ map given_for (events limit (rest ++ after.bytes))
       ≡ map given_for (events limit ((dropped ++ now.bytes) ++ input_of steps))
 
 module _ (limit : Option ℕ) (after : Caller) where
@@ -135,9 +135,10 @@ module _ (limit : Option ℕ) (after : Caller) where
       record {
         rest = run.rest;
         rest_kept = run.rest_kept;
-        in_order = append_assoc (given_by left) (all_given steps)
+        in_order = append_assoc (given_by now.bytes left) (all_given (after_call now left) steps)
             (map given_for (events limit (run.rest ++ after.bytes)))
-            ∙ ap (λ later. given_by left ++ later) run.in_order ∙ step.in_order (input_of steps);
+            ∙ ap (λ later. given_by now.bytes left ++ later) run.in_order
+            ∙ step.in_order (input_of steps);
       }
 
 module _ (limited : ℕ) (after : Caller) (steps : List CallerStep)
@@ -147,7 +148,8 @@ module _ (limited : ℕ) (after : Caller) (steps : List CallerStep)
       (kept_from_start (new_caller limited).connection []) are
 
   given_first : (later : List Given)
-      × (all_given steps ++ later ≡ map given_for (events (line_limit limited) (input_of steps)))
+      × (all_given (new_caller limited) steps ++ later
+      ≡ map given_for (events (line_limit limited) (input_of steps)))
   given_first =
       (map given_for (events (line_limit limited) (run.rest ++ after.bytes)), run.in_order)
 
@@ -177,8 +179,9 @@ returns c = record {
       let none = events-incomplete (line_limit limit) (before.rest ++ after.bytes)
       (asks_at_the_end after area before.rest before.rest_kept left
       (left_so (caller_call after area) left leaves) more) in
-      sym (append-nil (all_given steps)) ∙ ap (λ later. all_given steps ++ map given_for later)
-      (sym none) ∙ before.in_order;
+      let given = all_given (new_caller limit) steps in
+      sym (append-nil given) ∙ ap (λ later. given ++ map given_for later) (sym none)
+      ∙ before.in_order;
   nothing_used = λ limit steps after area left are leaves used.
       let before = run limit after steps are in
       uses_none after area before.rest before.rest_kept left

@@ -1,15 +1,16 @@
 -- What is given says the event.
 use Rattle.std.proofs.Common.{◌≡◌, ◌==◌, ℕ, true, nat_lt, [], ◌∷◌, ◌++◌, length, Option, Some, None, option_map, Ok, Err, codes, refl, sym, ap, subst, ◌∙◌, inl, inr, arith, decimal}
-use Rattle.std.specs.Prelude.{if◌then◌else◌, ◌||◌, unwrap_or}
+use Rattle.std.specs.Prelude.{if◌then◌else◌, ◌||◌, find, unwrap_or}
 use Rattle.std.proofs.lemmas.Bool.{cond_both}
 use Rattle.std.proofs.lemmas.Fmt.{decimal_nonempty}
 use Rattle.unftp_control_defs.specs.Bytes.{Bytes, crlf}
 use Rattle.unftp_control_defs.specs.Canonical.{HasLine, HasRoom, canonical_body, canonical_line, site_body, with_option_end, with_optional}
 use Rattle.unftp_control_defs.specs.Events.{Fault, FtpEvent, Command, Refused, event_of, event_for, exceeds, line_too_long, refusal_fault}
-use Rattle.unftp_control_defs.specs.FtpCommand.{FtpCommand, User, Pass, Acct, List as Listing, Site, Other, Outcome, Refusal, InvalidCommand, InvalidUtf8, InvalidEol, Value, Nothing, Raw, Text, Chosen, Number, maybe_raw, maybe_text, unless_empty, said}
-use Rattle.unftp_control_defs.specs.Said.{HasTypedFields, IsTyped, choice_word, command_number, name_and_value, value_bytes}
+use Rattle.unftp_control_defs.specs.FtpCommand.{FtpCommand, User, Pass, Acct, List as Listing, Site, Other, Outcome, Refusal, InvalidCommand, InvalidUtf8, InvalidEol, Value, Nothing, Raw, Text, Chosen, Number, maybe_raw, maybe_text, number, unless_empty, said, verbs, word}
+use Rattle.unftp_control_defs.specs.Said.{HasTypedFields, IsTyped, choice_word, command_number, name_on_line, value_bytes}
 use Rattle.unftp_control_defs.specs.Lines.{IsLine}
 use Rattle.unftp_control_defs.specs.Outcome.{outcome}
+use Rattle.unftp_control_defs.specs.declared.verb.Verb.TheVariants as verb
 use Rattle.unftp_control_defs.specs.declared.parameters.Choice.{Choice}
 use Rattle.unftp_control_defs.specs.declared.parameters.Choice.TheVariants as choices
 use Rattle.unftp_control_defs.specs.declared.parameters.AuthParam.TheVariants.{Ssl}
@@ -35,8 +36,14 @@ body_given number name value = if number == 42 || number == 43
     then site_body name value
     else with_optional name (parameter_given number value)
 
+-- the word that a number says, and else the name
+abbrev name_given : ℕ → Bytes → Bytes
+name_given n name = name_on_line (if n == 42 then word verb.Md5 else
+    unwrap_or (option_map (λ row. word row.1) (find (λ row. number row.1 == n) verbs)) []) name
+
 abbrev line_given : Given → Bytes
-line_given given = body_given given.number given.name (unless_empty given.value) ++ crlf
+line_given given = body_given given.number (name_given given.number given.name)
+    (unless_empty given.value) ++ crlf
 
 abbrev fault_numbered : ℕ → Fault
 fault_numbered number =
@@ -55,7 +62,8 @@ text_bytes (Some text) = refl
 
 -- it is the one that it was
 body_kept : (command : FtpCommand)
-    → body_given (command_number command) (name_and_value command).0 (name_and_value command).1
+    → body_given (command_number command)
+    (name_given (command_number command) (said command).name) (value_bytes (said command).value)
     ≡ canonical_body command
 body_kept (Listing options path) =
     ap (λ path. with_optional (codes "LIST") (option_map with_option_end path)) (text_bytes path)

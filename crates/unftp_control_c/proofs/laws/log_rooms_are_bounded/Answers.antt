@@ -1,6 +1,5 @@
-use Rattle.unftp_control_c.proofs.ExchangeRoomLemmas.{exchange_room}
 use Rattle.unftp_control_c.proofs.LogRoomLemmas.{log_room}
 use Rattle.unftp_control_c.proofs.laws.log_rooms_are_bounded.Goals as goal
 
 pub returns : goal.returns
-returns c = record { log_line = log_room; exchange = exchange_room }
+returns c = log_room

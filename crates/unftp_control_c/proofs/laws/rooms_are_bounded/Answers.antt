@@ -1,5 +1,5 @@
 -- How much room a call's line needs.
-use Rattle.std.proofs.Common.{◌≡◌, ◌≢◌, ℕ, ◌+◌, ◌*◌, ◌≤◌, length, Some, sym, ◌∙◌, arith, length-append}
+use Rattle.std.proofs.Common.{◌≡◌, ◌≢◌, ℕ, ◌+◌, ◌*◌, ◌≤◌, length, Some, sym, ◌∙◌, arith}
 use Rattle.std.proofs.lemmas.Bool.Decides.{nat_tests}
 use Rattle.std.proofs.lemmas.Option.{same_Some}
 use Rattle.unftp_control_codecs.specs.LineFeed.{line_feed_from}
@@ -10,7 +10,7 @@ use Rattle.unftp_control_c.proofs.AddressRoomLemmas.{address_room}
 use Rattle.unftp_control_c.proofs.CallLemmas.{FirstEvent, NextLeft, gave, no_room, gives_some, left_so}
 use Rattle.unftp_control_c.proofs.FoundRoomLemmas.{found_room}
 use Rattle.unftp_control_c.proofs.ParameterRoomLemmas.{parameter_room}
-use Rattle.unftp_control_c.proofs.RoomLemmas.{lengths}
+use Rattle.unftp_control_c.proofs.RoomLemmas.{lengths, written_room}
 use Rattle.unftp_control_c.proofs.ReplyRoomLemmas.{quoted_room, reply_room}
 use Rattle.unftp_control_c.proofs.laws.rooms_are_bounded.Goals as goal
 
@@ -33,9 +33,8 @@ module _ (call : Call) where
       → NextLeft call left → left.result ≢ status_number NoRoom
   has_room _ some wide (gave first room) = (gives_some _ first.some).1
   has_room _ some wide (no_room first small) = λ is.
-      let given = given_for first.event in
-      let sum = length-append given.name given.value in
-      grind (arith, nat_tests, small, wide, first.limited some, sum)
+      let least = written_room first.line (given_for first.event) in
+      grind (arith, nat_tests, small, wide, first.limited some, least)
   has_room _ some wide _ = λ is. omega (arith, is)
 
 -- the law
