@@ -29,6 +29,12 @@ impl RawBytes<'_> {
     }
 }
 
+impl<'a> RawBytes<'a> {
+    pub(crate) fn of(bytes: Cow<'a, [u8]>) -> RawBytes<'a> {
+        RawBytes(bytes)
+    }
+}
+
 impl Deref for RawBytes<'_> {
     type Target = [u8];
 
@@ -101,6 +107,12 @@ impl Debug for RawBytes<'_> {
 /// ```
 #[derive(Clone, PartialEq, Eq)]
 pub struct Password<'a>(RawBytes<'a>);
+
+impl<'a> Password<'a> {
+    pub(crate) fn of(bytes: Cow<'a, [u8]>) -> Password<'a> {
+        Password(RawBytes::of(bytes))
+    }
+}
 
 impl Password<'_> {
     /// The bytes, which may be none.

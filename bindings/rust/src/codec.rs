@@ -1,6 +1,6 @@
 use crate::canonical::forward;
 use crate::client::{ClientReply, Dialogue};
-use crate::command::Command;
+use crate::command::{Command, Keep};
 use crate::error::Error;
 use crate::event::Event;
 use crate::lines::{Lines, LINE_LIMIT};
@@ -72,8 +72,9 @@ impl Decoder for FtpCodec {
     type Item = Event<'static>;
     type Error = CodecError;
 
+    #[inline]
     fn decode(&mut self, src: &mut BytesMut) -> Result<Option<Event<'static>>, CodecError> {
-        if self.lines.passes_over_few(src) {
+        if self.lines.passes_over(src) {
             return Ok(None);
         }
         decode_by_call(&mut self.lines, src)
@@ -93,9 +94,31 @@ fn decode_by_call(
     lines: &mut Lines,
     src: &mut BytesMut,
 ) -> Result<Option<Event<'static>>, CodecError> {
-    let taken = lines.take(src, Event::into_owned)?;
-    src.advance(taken.used);
-    Ok(taken.event)
+    let taken = lines.take(src);
+    let number = taken.number();
+    if Command::is_word(number) {
+        let used = taken.used();
+        drop_front(src, used);
+        return Command::word(number);
+    }
+    let Some(taken) = taken.with_room() else {
+        return Err(Error::OutOfMemory.into());
+    };
+    let used = taken.used();
+    let event = taken.event(Keep::OWNED);
+    drop_front(src, used);
+    Ok(event)
+}
+
+/// Drops so many bytes. A buffer that is used up has its room again at once: after `advance` it
+/// would have to be reserved.
+#[inline]
+fn drop_front(src: &mut BytesMut, used: usize) {
+    if used == src.len() {
+        src.clear();
+    } else {
+        src.advance(used);
+    }
 }
 
 /// Of `Reply` only, so that `flush` and `close` of a sink need no type. A

@@ -1,13 +1,13 @@
 use crate::bytes::{Password, RawBytes};
 use crate::error::Error;
 use crate::event::Event;
+use crate::ffi::Given;
 use crate::lines::Lines;
 use crate::log;
 use crate::parameters::{AuthParam, ModeParam, Opt, ProtParam, StruParam};
 use crate::shown;
 use std::borrow::Cow;
 use std::fmt::{self, Debug, Display, Formatter};
-use std::str;
 
 /// A command that a client sends on the control connection. Its texts and bytes are borrowed from
 /// the [`Pending`](crate::Pending) that gave it, or owned: [`into_owned`](Command::into_owned)
@@ -382,10 +382,11 @@ impl Command<'_> {
     pub fn to_line(&self) -> Result<Vec<u8>, Error> {
         let line = self.composed();
         let mut lines = Lines::new(0);
-        let is_it = |event| matches!(event, Event::Command(command) if command == *self);
-        let taken = lines.take(&line, is_it)?;
-        let is_read_back = taken.event == Some(true) && taken.used == line.len();
-        is_read_back.then_some(line).ok_or(Error::NoLine)
+        let taken = lines.take(&line).with_room().ok_or(Error::OutOfMemory)?;
+        let is_whole = taken.used() == line.len();
+        let event = taken.event(Keep::BORROWED);
+        let is_it = matches!(event, Some(Event::Command(command)) if command == *self);
+        (is_whole && is_it).then_some(line).ok_or(Error::NoLine)
     }
 
     /// The line that it has, if it has one.
@@ -531,7 +532,7 @@ impl<F: Field> Field for Option<F> {
 macro_rules! never {
     ($($clause:tt)*) => {
         unreachable!(
-            "{}: `Leaves` of unftp_next gives what `name_and_value` does",
+            "{}: `Leaves` of unftp_next gives what `given_of` does",
             format_args!($($clause)*)
         )
     };
@@ -546,8 +547,9 @@ macro_rules! choices {
             }
         }
 
-        fn $reads(value: &[u8]) -> $param {
-            match value {
+        #[inline(always)]
+        fn $reads<'a, 'kept>(given: Given<'a>, _: Keep<'a, 'kept>) -> $param {
+            match given.value() {
                 $($word => $value,)*
                 _ => never!("the value of {} is one of its words", stringify!($param)),
             }
@@ -555,68 +557,150 @@ macro_rules! choices {
     };
 }
 
-/// Makes the command of one row of the table.
-macro_rules! made {
-    ($name:expr, $value:expr, $variant:ident nothing {}) => {
-        Command::$variant
-    };
-    ($name:expr, $value:expr, $variant:ident listing { $options:ident, $path:ident }) => {
-        Command::$variant { $options: None, $path: optional_text($value) }
-    };
-    ($name:expr, $value:expr, $variant:ident named { $first:ident, $arguments:ident }) => {
-        Command::$variant { $first: text($name), $arguments: text($value) }
-    };
-    ($name:expr, $value:expr, $variant:ident $makes:ident { $field:ident }) => {
-        Command::$variant { $field: $makes($value) }
+/// How the fields of a command keep what `unftp_next` has given.
+#[derive(Clone, Copy)]
+pub(crate) struct Keep<'a, 'kept> {
+    bytes: fn(&'a [u8]) -> Cow<'kept, [u8]>,
+    text: fn(&'a str) -> Cow<'kept, str>,
+}
+
+impl<'a> Keep<'a, 'a> {
+    /// They borrow it.
+    pub(crate) const BORROWED: Keep<'a, 'a> = Keep { bytes: Cow::Borrowed, text: Cow::Borrowed };
+}
+
+#[cfg(feature = "tokio-util")]
+impl<'a> Keep<'a, 'static> {
+    /// They own a copy.
+    pub(crate) const OWNED: Keep<'a, 'static> = Keep {
+        bytes: |bytes| Cow::Owned(copied(bytes).into_vec()),
+        text: |text| Cow::Owned(copied_text(text).into_string()),
     };
 }
 
-/// Makes the command of a number, a name and a value.
+// A box is returned in two registers, and a vector or a string in memory.
+#[cfg(feature = "tokio-util")]
+#[inline(never)]
+fn copied(bytes: &[u8]) -> Box<[u8]> {
+    bytes.into()
+}
+
+#[cfg(feature = "tokio-util")]
+#[inline(never)]
+fn copied_text(text: &str) -> Box<str> {
+    text.into()
+}
+
+/// Makes the command of one row of the table.
+macro_rules! made {
+    ($given:expr, $keep:expr, $variant:ident nothing {}) => {
+        Command::$variant
+    };
+    ($given:expr, $keep:expr, $variant:ident listing { $options:ident, $path:ident }) => {
+        Command::$variant { $options: None, $path: optional_text($given, $keep) }
+    };
+    ($given:expr, $keep:expr, $variant:ident named { $first:ident, $arguments:ident }) => {
+        Command::$variant { $first: name($given, $keep), $arguments: text($given, $keep) }
+    };
+    ($given:expr, $keep:expr, $variant:ident $makes:ident { $field:ident }) => {
+        Command::$variant { $field: $makes($given, $keep) }
+    };
+}
+
+/// Makes the command of what is given.
 macro_rules! of_line {
-    ($given:expr, $name:expr, $value:expr,
+    ($given:expr, $keep:expr,
         $($number:literal $variant:ident $verb:literal $makes:ident { $($field:ident),* })*) => {
-        match $given {
-            $($number => made!($name, $value, $variant $makes { $($field),* }),)*
+        match $given.number() {
+            $($number => made!($given, $keep, $variant $makes { $($field),* }),)*
             number => never!("{number} is no `command_number`"),
         }
     };
 }
 
-impl<'a> Command<'a> {
-    /// The command that `unftp_next` gives by a number, a name and a value.
-    // inlined, it is not moved before it is owned
+/// The first of two expressions for a row of the table without fields, and else the second.
+macro_rules! if_word {
+    ({} $word:expr, $other:expr) => {
+        $word
+    };
+    ($fields:tt $word:expr, $other:expr) => {
+        $other
+    };
+}
+
+/// Whether the command of a number has no field.
+macro_rules! is_word {
+    ($given:expr, $($number:literal $variant:ident $verb:literal $makes:ident $fields:tt)*) => {
+        match $given {
+            $($number => if_word!($fields true, false),)*
+            _ => false,
+        }
+    };
+}
+
+/// The event of a number whose command has no field.
+macro_rules! word {
+    ($given:expr, $($number:literal $variant:ident $verb:literal $makes:ident $fields:tt)*) => {
+        match $given {
+            $($number => if_word!($fields Ok(Some(Event::Command(Command::$variant))), Ok(None)),)*
+            _ => Ok(None),
+        }
+    };
+}
+
+impl<'kept> Command<'kept> {
+    /// Whether the number is all that `unftp_next` gives of the command: it has no field.
     #[inline]
-    pub(crate) fn of_line(number: u32, name: &'a [u8], value: &'a [u8]) -> Command<'a> {
-        for_each_command!(of_line!(number, name, value))
+    pub(crate) fn is_word(number: u32) -> bool {
+        for_each_command!(is_word!(number))
+    }
+
+    /// The event of such a command, and none for another number.
+    // all that a decoder returns: so it is a byte of a table, which is written where it is wanted
+    #[inline]
+    pub(crate) fn word<E>(number: u32) -> Result<Option<Event<'kept>>, E> {
+        for_each_command!(word!(number))
+    }
+
+    /// The command that `unftp_next` gives by a number, a name and a value.
+    // inlined, it is made where it is wanted
+    #[inline(always)]
+    pub(crate) fn of_line<'a>(given: Given<'a>, keep: Keep<'a, 'kept>) -> Command<'kept> {
+        for_each_command!(of_line!(given, keep))
     }
 }
 
-fn bytes(value: &[u8]) -> RawBytes<'_> {
-    value.into()
+// These make fields. They are always inlined, so that what is given is not written to memory again.
+
+#[inline(always)]
+fn bytes<'a, 'kept>(given: Given<'a>, keep: Keep<'a, 'kept>) -> RawBytes<'kept> {
+    RawBytes::of((keep.bytes)(given.value()))
 }
 
-fn password(value: &[u8]) -> Password<'_> {
-    value.into()
+#[inline(always)]
+fn password<'a, 'kept>(given: Given<'a>, keep: Keep<'a, 'kept>) -> Password<'kept> {
+    Password::of((keep.bytes)(given.value()))
 }
 
 /// The value, where there is one: no command has an empty one that it may lack.
-fn unless_empty(value: &[u8]) -> Option<&[u8]> {
-    (!value.is_empty()).then_some(value)
+#[inline(always)]
+fn optional_bytes<'a, 'kept>(given: Given<'a>, keep: Keep<'a, 'kept>) -> Option<RawBytes<'kept>> {
+    (!given.value().is_empty()).then(|| bytes(given, keep))
 }
 
-fn optional_bytes(value: &[u8]) -> Option<RawBytes<'_>> {
-    unless_empty(value).map(bytes)
+#[inline(always)]
+fn optional_text<'a, 'kept>(given: Given<'a>, keep: Keep<'a, 'kept>) -> Option<Cow<'kept, str>> {
+    (!given.value().is_empty()).then(|| text(given, keep))
 }
 
-fn optional_text(value: &[u8]) -> Option<Cow<'_, str>> {
-    unless_empty(value).map(text)
+#[inline(always)]
+fn text<'a, 'kept>(given: Given<'a>, keep: Keep<'a, 'kept>) -> Cow<'kept, str> {
+    (keep.text)(given.value_text())
 }
 
-fn text(value: &[u8]) -> Cow<'_, str> {
-    match str::from_utf8(value) {
-        Ok(text) => Cow::Borrowed(text),
-        Err(_) => never!("a text of `outcome` is UTF-8"),
-    }
+#[inline(always)]
+fn name<'a, 'kept>(given: Given<'a>, keep: Keep<'a, 'kept>) -> Cow<'kept, str> {
+    (keep.text)(given.name_text())
 }
 
 choices! {
@@ -641,10 +725,10 @@ choices! {
         b"P" ProtParam::Private => ProtParam::Private;
 }
 
-fn offset(value: &[u8]) -> u64 {
-    let digits = str::from_utf8(value).ok();
-    match digits.and_then(|digits| digits.parse().ok()) {
-        Some(offset) => offset,
-        None => never!("the value of REST is `decimal` of a number below 2^64"),
+#[inline(always)]
+fn offset<'a, 'kept>(given: Given<'a>, _: Keep<'a, 'kept>) -> u64 {
+    match given.value_text().parse() {
+        Ok(offset) => offset,
+        Err(_) => never!("the value of REST is `decimal` of a number below 2^64"),
     }
 }

@@ -9,10 +9,16 @@
 //!
 //! `enum unftp_result` has no negative number, and C gives such an enum the form of a `u32`.
 //!
+//! Beside the calls, `text` is unsafe. That a text of `unftp_next` is UTF-8 is proved, and not
+//! checked again; by the types `Taken` and `Given` it is read as that call has left it.
+//!
 //! Numbers and structs are those of the header of one version. The names of the calls in the text of
 //! `generated/` carry the version of this crate, so no other version is linked. With the feature
 //! `system` the first call asks which version the library is of, and panics where that doesn't fit.
-use crate::version::{fits, needed, text};
+use crate::area::grow;
+use crate::error::Error;
+use crate::version::{self, fits, needed};
+use std::str;
 use std::sync::OnceLock;
 
 pub(crate) const DONE: u32 = 0;
@@ -58,11 +64,12 @@ pub(crate) struct Connection {
 
 /// `struct unftp_line`.
 #[repr(C)]
-#[derive(Default)]
+#[derive(Clone, Default)]
 pub(crate) struct Line {
-    pub(crate) used: usize,
-    pub(crate) name_len: usize,
-    pub(crate) value_len: usize,
+    used: usize,
+    name_len: usize,
+    value_len: usize,
+    value_at: usize,
 }
 
 /// `struct unftp_found_reply`.
@@ -100,7 +107,8 @@ pub(crate) struct Address {
     pub(crate) port: u32,
 }
 
-/// The name of a call in the text of `generated/`: `unftp_0_1_0_next` for `unftp_next`.
+/// The name of a call in the text of `generated/`: `unftp_0_4_0_next` for `unftp_next`, in version
+/// 0.4.0.
 #[cfg(not(feature = "system"))]
 macro_rules! own_name {
     ($call:literal) => {
@@ -269,30 +277,167 @@ fn check_version() {
         assert!(
             fits(found),
             "the crate unftp_control is linked with a library of version {}, and needs {}",
-            text(found),
+            version::text(found),
             needed()
         );
     });
 }
 
-/// Calls `unftp_next`: what it returns, and the line.
-pub(crate) fn next(connection: &mut Connection, bytes: &[u8], area: &mut [u8]) -> (u32, Line) {
-    check_version();
-    let mut line = Line::default();
-    // SAFETY: no pointer is null, since each is of a reference, and each length is that of the
-    // slice beside it. Nothing overlaps: the connection and the area are mutably borrowed, and
-    // `line` is a variable of this function. The structs have the header's fields in its order.
-    let status = unsafe {
-        unftp_next(
-            connection,
-            bytes.as_ptr(),
-            bytes.len(),
-            area.as_mut_ptr(),
-            area.len(),
-            &mut line,
-        )
-    };
-    (status, line)
+/// What `unftp_next` is passed again with each call of a connection, and where it writes.
+#[derive(Clone, Default)]
+pub(crate) struct State {
+    pub(crate) connection: Connection,
+    // it stays where a call writes it: moved, it would be read in larger parts than it was written,
+    // for which a processor waits
+    line: Line,
+    area: Vec<u8>,
+}
+
+impl State {
+    /// At the start of a connection.
+    pub(crate) fn new(connection: Connection) -> State {
+        State { connection, ..State::default() }
+    }
+
+    /// Calls `unftp_next`.
+    #[inline]
+    pub(crate) fn next<'a>(&'a mut self, pending: &'a [u8]) -> Taken<'a> {
+        check_version();
+        let State { connection, line, area } = self;
+        // SAFETY: no pointer is null, since each is of a reference, and each length is that of the
+        // slice beside it. Nothing overlaps: the connection, the area and the line are mutably
+        // borrowed. The structs have the header's fields in its order.
+        let number = unsafe {
+            unftp_next(
+                connection,
+                pending.as_ptr(),
+                pending.len(),
+                area.as_mut_ptr(),
+                area.len(),
+                line,
+            )
+        };
+        Taken { number, pending, state: self }
+    }
+
+    /// How many bytes the area has.
+    pub(crate) fn room(&self) -> usize {
+        self.area.len()
+    }
+}
+
+/// What a call of `unftp_next` has taken. It borrows the pending bytes of that call and the area:
+/// neither is changed before its texts are read.
+// its fields are of this module only: no other makes one
+pub(crate) struct Taken<'a> {
+    number: u32,
+    pending: &'a [u8],
+    state: &'a mut State,
+}
+
+impl<'a> Taken<'a> {
+    /// What the call returned.
+    #[inline]
+    pub(crate) fn number(&self) -> u32 {
+        self.number
+    }
+
+    /// How many bytes it used up.
+    #[inline]
+    pub(crate) fn used(&self) -> usize {
+        self.state.line.used
+    }
+
+    /// How many bytes the area has.
+    pub(crate) fn room(&self) -> usize {
+        self.state.room()
+    }
+
+    /// How many bytes the area needs at `NO_ROOM`.
+    pub(crate) fn needed(&self) -> usize {
+        let Line { name_len, value_len, value_at, .. } = self.state.line;
+        name_len + if value_at == 0 { value_len } else { 0 }
+    }
+
+    /// Calls again, with an area of at least so many bytes.
+    pub(crate) fn retry(self, room: usize) -> Result<Taken<'a>, Error> {
+        grow(&mut self.state.area, room)?;
+        Ok(self.state.next(self.pending))
+    }
+
+    /// The name and the value of the command that the call returned.
+    #[inline]
+    pub(crate) fn given(self) -> Given<'a> {
+        let Taken { number, pending, state: State { line, area, .. } } = self;
+        let (name, after_name) = area.split_at(line.name_len);
+        let from = if line.value_at == 0 { after_name } else { &pending[line.value_at..] };
+        Given { number, name, value: &from[..line.value_len] }
+    }
+}
+
+/// A command as `unftp_next` gives it.
+// its fields are of this module only: the number is that of the call that gave name and value
+#[derive(Clone, Copy)]
+pub(crate) struct Given<'a> {
+    number: u32,
+    name: &'a [u8],
+    value: &'a [u8],
+}
+
+impl<'a> Given<'a> {
+    /// Its number in the header.
+    #[inline]
+    pub(crate) fn number(self) -> u32 {
+        self.number
+    }
+
+    /// Its value.
+    #[inline]
+    pub(crate) fn value(self) -> &'a [u8] {
+        self.value
+    }
+
+    /// Its value, which has to be a text.
+    #[inline]
+    pub(crate) fn value_text(self) -> &'a str {
+        assert!(is_command(self.number) && !has_any_bytes(self.number), "the value is a text");
+        // SAFETY: one call gave the number and the value, and the number is that of a text.
+        unsafe { text(self.value) }
+    }
+
+    /// Its name.
+    #[inline]
+    pub(crate) fn name_text(self) -> &'a str {
+        assert!(is_command(self.number), "only a command has a name");
+        // SAFETY: one call gave the number and the name, and the number is that of a command.
+        unsafe { text(self.name) }
+    }
+}
+
+/// Whether a call has given a command: the other numbers that it returns begin with `MORE`.
+#[inline]
+fn is_command(number: u32) -> bool {
+    number < MORE
+}
+
+/// Whether the value of this command may have any bytes: USER, PASS, ACCT and STAT.
+#[inline]
+fn has_any_bytes(number: u32) -> bool {
+    matches!(number, 1 | 2 | 3 | 5)
+}
+
+/// The text of these bytes, which are checked only in a debug build.
+///
+/// # Safety
+///
+/// They have to be the name that `unftp_next` has given of a command, or the value of one that is
+/// not of `has_any_bytes`. Then they are UTF-8, by the clause `texts` of its contract
+/// (crates/unftp_control_c/src/next.rt).
+#[inline]
+unsafe fn text(bytes: &[u8]) -> &str {
+    debug_assert!(str::from_utf8(bytes).is_ok(), "`texts` of unftp_next: they are UTF-8");
+    // SAFETY: the caller's promise.
+    unsafe { str::from_utf8_unchecked(bytes) }
 }
 
 /// Calls `unftp_parameter`: what it returns, and the length.

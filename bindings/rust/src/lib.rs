@@ -79,8 +79,8 @@
 //!
 //! With the feature `system` the crate links an installed library in its place, which a distribution
 //! may want: `libunftp_control.a` of the folder that `UNFTP_CONTROL_LIB` names, or of `lib` there,
-//! and else the one that `pkg-config unftp_control` finds, where its version is 0.3.x. The first call
-//! then asks the library for its version, and panics where that is not 0.3.x.
+//! and else the one that `pkg-config unftp_control` finds, where its version is 0.4.x. The first call
+//! then asks the library for its version, and panics where that is not 0.4.x.
 //!
 //! The crate without features has no dependencies.
 //!
@@ -95,9 +95,10 @@
 //!
 //! # Memory
 //!
-//! Where the library or an area of it can't allocate, a call returns [`Error::OutOfMemory`] and may
-//! be made again. Owned commands, replies and codecs allocate as all of Rust does, where running
-//! out of memory ends the process. Nothing wipes a password.
+//! The event of a usual line borrows its value from the bytes of its [`Pending`], and takes no
+//! memory. Where the library or an area of it can't allocate, a call returns
+//! [`Error::OutOfMemory`] and may be made again. Owned commands, replies and codecs allocate as all
+//! of Rust does, where running out of memory ends the process. Nothing wipes a password.
 #![deny(missing_docs, unreachable_pub, unsafe_code)]
 
 mod address;

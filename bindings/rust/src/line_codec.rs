@@ -1,9 +1,11 @@
 use crate::codec::{incomplete, CodecError};
-use crate::event::{list_path, parameter, Event, Refusal};
+use crate::command::Keep;
+use crate::error::Error;
+use crate::event::{list_path, parameter, Event};
 use crate::lines::{Lines, LINE_LIMIT};
 use crate::log::log_line;
 use crate::reply::Reply;
-use bytes::{Bytes, BytesMut};
+use bytes::{Buf, Bytes, BytesMut};
 use std::fmt::{self, Debug, Formatter};
 use tokio_util::codec::{Decoder, Encoder};
 
@@ -102,8 +104,9 @@ impl Decoder for FtpLineCodec {
     type Item = OwnedLine;
     type Error = CodecError;
 
+    #[inline]
     fn decode(&mut self, src: &mut BytesMut) -> Result<Option<OwnedLine>, CodecError> {
-        if self.lines.passes_over_few(src) {
+        if self.lines.passes_over(src) {
             return Ok(None);
         }
         decode_by_call(&mut self.lines, src)
@@ -120,12 +123,18 @@ impl Decoder for FtpLineCodec {
 // a function of its own, so that the path without a call needs no stack for a line
 #[inline(never)]
 fn decode_by_call(lines: &mut Lines, src: &mut BytesMut) -> Result<Option<OwnedLine>, CodecError> {
-    let taken = lines.take(src, Event::into_owned)?;
-    let bytes = src.split_to(taken.used).freeze();
-    Ok(taken.event.map(|event| match event {
-        Event::Refused(Refusal::LineTooLong) => OwnedLine { event, bytes: Bytes::new() },
-        event => OwnedLine { event, bytes },
-    }))
+    let Some(taken) = lines.take(src).with_room() else {
+        return Err(Error::OutOfMemory.into());
+    };
+    let (used, is_line) = (taken.used(), taken.is_line());
+    let event = taken.event(Keep::OWNED);
+    let bytes = if is_line {
+        src.split_to(used).freeze()
+    } else {
+        src.advance(used);
+        Bytes::new()
+    };
+    Ok(event.map(|event| OwnedLine { event, bytes }))
 }
 
 /// As that of [`FtpCodec`](crate::FtpCodec).

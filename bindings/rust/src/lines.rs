@@ -1,16 +1,14 @@
-use crate::area::grow;
-use crate::command::Command;
-use crate::error::Error;
+use crate::command::{Command, Keep};
 use crate::event::{Event, Refusal};
-use crate::ffi;
+use crate::ffi::{self, Taken};
 use std::fmt::{self, Debug, Formatter};
 
 /// The most bytes of a line, its line feed counted, where no other limit is named: enough for a
 /// verb and a path of 4,096 bytes with each CR sent as CR NUL.
 pub const LINE_LIMIT: usize = 8192;
 
-/// How many bytes the area for a name and a value has at first.
-const AREA: usize = 512;
+/// How many bytes the area has at least, once a line needs it: few lines do.
+const AREA: usize = 64;
 
 /// Fewer new bytes than these are searched for a line feed here, since a call would take longer.
 const FEW: usize = 16;
@@ -18,34 +16,25 @@ const FEW: usize = 16;
 /// Takes the lines of a connection, whose pending bytes its owner keeps.
 #[derive(Clone)]
 pub(crate) struct Lines {
-    connection: ffi::Connection,
-    /// Where the library writes names and values.
-    area: Vec<u8>,
-}
-
-/// What `Lines` has taken.
-pub(crate) struct Taken<E> {
-    /// How many bytes are used up, also where there is no event.
-    pub(crate) used: usize,
-    pub(crate) event: Option<E>,
+    state: ffi::State,
 }
 
 impl Lines {
     /// At the start of a connection. A limit of 0 is none.
     pub(crate) fn new(limit: usize) -> Lines {
         let connection = ffi::Connection { limit, ..ffi::Connection::default() };
-        Lines { connection, area: Vec::new() }
+        Lines { state: ffi::State::new(connection) }
     }
 
     /// Forgets what it knows of the pending bytes.
     pub(crate) fn restart(&mut self) {
-        self.connection.offset = 0;
-        self.connection.skipping = 0;
+        self.state.connection.offset = 0;
+        self.state.connection.skipping = 0;
     }
 
     /// Whether bytes of the first line were dropped, since it is too long.
     pub(crate) fn is_skipping(&self) -> bool {
-        self.connection.skipping != 0
+        self.state.connection.skipping != 0
     }
 
     /// Whether no line can be taken yet, as is seen without a call of the library: nothing is
@@ -53,91 +42,111 @@ impl Lines {
     /// long. The connection is then as a call would leave it. Else the library has to be called.
     #[inline]
     pub(crate) fn passes_over(&mut self, pending: &[u8]) -> bool {
-        let ffi::Connection { limit, offset, skipping } = &mut self.connection;
+        let offset = &mut self.state.connection.offset;
+        if pending.len() >= *offset + FEW {
+            return false;
+        }
+        match pending.last() {
+            // one line has come, and once it is taken there is none
+            Some(b'\n') if *offset <= pending.len() => false,
+            None => {
+                *offset = 0;
+                true
+            }
+            Some(_) => self.passes_over_few(pending),
+        }
+    }
+
+    // a function of its own, so that `passes_over` is a few comparisons where it is inlined
+    #[inline(never)]
+    fn passes_over_few(&mut self, pending: &[u8]) -> bool {
+        let ffi::Connection { limit, offset, skipping } = &mut self.state.connection;
         if *offset > pending.len() {
             // the owner has dropped bytes
             *offset = 0;
         }
         let new = &pending[*offset..];
-        let passes = pending.is_empty()
-            || new.len() < FEW
-                // most often a line feed is the last byte
-                && new.last() != Some(&b'\n')
-                && *skipping == 0
-                && (*limit == 0 || pending.len() < *limit)
-                && !new.contains(&b'\n');
+        let passes = new.len() < FEW
+            && *skipping == 0
+            && (*limit == 0 || pending.len() < *limit)
+            && !new.contains(&b'\n');
         if passes {
             *offset = pending.len();
         }
         passes
     }
 
-    /// As `passes_over`, for a caller that mostly has many new bytes: then it is one comparison.
-    #[cfg(feature = "tokio-util")]
+    /// Takes the first line of the pending bytes by a call. The offset has to be within them, as it
+    /// is after `passes_over` and `new`.
     #[inline]
-    pub(crate) fn passes_over_few(&mut self, pending: &[u8]) -> bool {
-        pending.len() < self.connection.offset + FEW && self.passes_over_apart(pending)
+    pub(crate) fn take<'a>(&'a mut self, pending: &'a [u8]) -> Taken<'a> {
+        self.state.next(pending)
+    }
+}
+
+impl<'a> Taken<'a> {
+    /// Whether the used bytes are a whole line: of one that is too long they are only the end.
+    #[inline]
+    pub(crate) fn is_line(&self) -> bool {
+        !matches!(self.number(), ffi::MORE | ffi::LINE_TOO_LONG)
     }
 
-    #[cfg(feature = "tokio-util")]
-    #[inline(never)]
-    fn passes_over_apart(&mut self, pending: &[u8]) -> bool {
-        self.passes_over(pending)
-    }
-
-    /// Takes the first line of the pending bytes, if it is complete. `keep` is given its event. The
-    /// offset has to be within them, as it is after `passes_over` and `new`.
-    // inlined, what it has taken is not moved
+    /// The same, once the area has room for it; `None` where memory runs out.
+    // In a `Result` the error would be where a part of the value is, which is then read in pieces.
     #[inline]
-    pub(crate) fn take<'a, E>(
-        &'a mut self,
-        pending: &[u8],
-        keep: impl FnOnce(Event<'a>) -> E,
-    ) -> Result<Taken<E>, Error> {
-        // a name and a value most often take no more bytes than their line
-        let expected = pending.len().min(LINE_LIMIT);
-        if self.area.len() < expected {
-            grow(&mut self.area, expected.max(AREA))?;
+    pub(crate) fn with_room(mut self) -> Option<Taken<'a>> {
+        while self.number() == ffi::NO_ROOM {
+            self = self.with_more_room()?;
         }
-        let (status, line) = loop {
-            let (status, line) = ffi::next(&mut self.connection, pending, &mut self.area);
-            if status != ffi::NO_ROOM {
-                break (status, line);
-            }
-            // a line that has no room is read again, so that lines ever longer cost few of these
-            let len = (line.name_len + line.value_len).max(2 * self.area.len());
-            grow(&mut self.area, len)?;
-        };
-        let (name, rest) = self.area.split_at(line.name_len);
-        let event = match status {
-            ffi::OUT_OF_MEMORY => return Err(Error::OutOfMemory),
-            ffi::MORE => None,
-            _ => Some(keep(match Refusal::of_status(status) {
-                Some(refusal) => Event::Refused(refusal),
-                None => Event::Command(Command::of_line(status, name, &rest[..line.value_len])),
-            })),
-        };
-        Ok(Taken { used: line.used, event })
+        (self.number() != ffi::OUT_OF_MEMORY).then_some(self)
+    }
+
+    // the line is read again, and the area at least doubles: so lines ever longer cost few of these
+    #[cold]
+    fn with_more_room(self) -> Option<Taken<'a>> {
+        let room = self.needed().max(2 * self.room()).max(AREA);
+        self.retry(room).ok()
+    }
+
+    /// Its event, if a line is complete. The area has to have room for it.
+    // inlined, it is made where the caller wants it, and not moved
+    #[inline(always)]
+    pub(crate) fn event<'kept>(self, keep: Keep<'a, 'kept>) -> Option<Event<'kept>> {
+        if self.number() == ffi::MORE {
+            return None;
+        }
+        Some(match Refusal::of_status(self.number()) {
+            Some(refusal) => Event::Refused(refusal),
+            None => Event::Command(Command::of_line(self.given(), keep)),
+        })
     }
 }
 
 /// Shows nothing of the area, where a password may be.
 impl Debug for Lines {
     fn fmt(&self, f: &mut Formatter<'_>) -> fmt::Result {
-        self.connection.fmt(f)
+        self.state.connection.fmt(f)
     }
 }
 
 #[cfg(test)]
 mod tests {
     use super::*;
+    use crate::error::Error;
 
-    /// Takes a line as the owners of `Lines` do.
-    fn take(lines: &mut Lines, pending: &[u8]) -> Result<Taken<()>, Error> {
+    /// Takes a line as the owners of `Lines` do: how many bytes are used up, and whether there is
+    /// an event.
+    fn take(lines: &mut Lines, pending: &[u8]) -> Result<(usize, bool), Error> {
         if lines.passes_over(pending) {
-            return Ok(Taken { used: 0, event: None });
+            return Ok((0, false));
         }
-        lines.take(pending, drop)
+        by_call(&mut lines.state, pending)
+    }
+
+    /// The same by a call of the library.
+    fn by_call(state: &mut ffi::State, pending: &[u8]) -> Result<(usize, bool), Error> {
+        let taken = state.next(pending).with_room().ok_or(Error::OutOfMemory)?;
+        Ok((taken.used(), taken.event(Keep::BORROWED).is_some()))
     }
 
     #[test]
@@ -146,33 +155,33 @@ mod tests {
         let mut pending = Vec::new();
         for count in 1..=100 {
             pending.push(b'a');
-            assert_eq!(take(&mut lines, &pending)?.used, 0);
-            assert_eq!(lines.connection.offset, count);
+            assert_eq!(take(&mut lines, &pending)?.0, 0);
+            assert_eq!(lines.state.connection.offset, count);
         }
         pending.push(b'\n');
-        assert_eq!(take(&mut lines, &pending)?.used, 101);
-        assert_eq!(lines.connection.offset, 0);
+        assert_eq!(take(&mut lines, &pending)?.0, 101);
+        assert_eq!(lines.state.connection.offset, 0);
         Ok(())
     }
 
     /// Pushes the input in pieces of this size, and takes the lines after each. The library is
     /// called beside it each time, and has to leave the same.
     fn takes_as_the_library(limit: usize, input: &[u8], size: usize) -> Result<(), Error> {
-        let (mut lines, mut beside) = (Lines::new(limit), Lines::new(limit).connection);
-        let (mut pending, mut area) = (Vec::new(), [0; 512]);
+        let (mut lines, mut beside) = (Lines::new(limit), Lines::new(limit).state);
+        let mut pending = Vec::new();
         for piece in input.chunks(size) {
             pending.extend_from_slice(piece);
             loop {
-                let taken = take(&mut lines, &pending)?;
-                let used = match &pending[..] {
-                    [] => 0,
-                    pending => ffi::next(&mut beside, pending, &mut area).1.used,
+                let (used, is_event) = take(&mut lines, &pending)?;
+                let expected = match &pending[..] {
+                    [] => (0, false),
+                    pending => by_call(&mut beside, pending)?,
                 };
-                assert_eq!(taken.used, used);
-                assert_eq!(lines.connection.offset, beside.offset);
-                assert_eq!(lines.connection.skipping, beside.skipping);
+                assert_eq!((used, is_event), expected);
+                assert_eq!(lines.state.connection.offset, beside.connection.offset);
+                assert_eq!(lines.state.connection.skipping, beside.connection.skipping);
                 pending.drain(..used);
-                if taken.event.is_none() {
+                if !is_event {
                     break;
                 }
             }
@@ -193,13 +202,44 @@ mod tests {
         Ok(())
     }
 
+    /// Takes this line, after which the area has to have so many bytes.
+    fn leaves_area(lines: &mut Lines, line: &str, area: usize) -> Result<(), Error> {
+        assert_eq!(take(lines, line.as_bytes())?, (line.len(), true));
+        assert_eq!(lines.state.room(), area, "{} bytes: {line:.20}", line.len());
+        Ok(())
+    }
+
     #[test]
-    fn a_long_line_has_its_room_at_once() -> Result<(), Error> {
+    fn a_line_that_has_its_value_as_it_is_needs_no_area() -> Result<(), Error> {
         let mut lines = Lines::new(0);
-        for (path, area) in [(5, AREA), (4000, 4007), (100_000, 100_004), (5, 100_004)] {
-            let line = format!("RETR {}\r\n", "a".repeat(path));
-            assert_eq!(take(&mut lines, line.as_bytes())?.used, path + 7);
-            assert_eq!(lines.area.len(), area);
+        for line in ["NOOP", "TYPE A", "type a", "REST +5", "RETR \u{e9}", "PASS a b", "AUTH TLS"] {
+            leaves_area(&mut lines, &format!("{line}\r\n"), 0)?;
+        }
+        leaves_area(&mut lines, &format!("RETR {}\r\n", "a".repeat(100_000)), 0)
+    }
+
+    #[test]
+    fn a_name_needs_its_own_room() -> Result<(), Error> {
+        let mut lines = Lines::new(0);
+        let value = "a".repeat(5000);
+        leaves_area(&mut lines, &format!("site chmod {value}\r\n"), AREA)?;
+        leaves_area(&mut lines, &format!("clnt {value}\r\n"), AREA)?;
+        leaves_area(&mut lines, &format!("{} {value}\r\n", "x".repeat(3 * AREA)), 3 * AREA)
+    }
+
+    #[test]
+    fn the_area_at_least_doubles() -> Result<(), Error> {
+        let mut lines = Lines::new(0);
+        leaves_area(&mut lines, "auth tls\r\n", AREA)?;
+        // CR NUL is one CR, so the value takes `path + 1` bytes
+        for (path, area) in [
+            (AREA - 1, AREA),
+            (AREA, 2 * AREA),
+            (5 * AREA, 5 * AREA + 1),
+            (5 * AREA + 1, 10 * AREA + 2),
+            (1, 10 * AREA + 2),
+        ] {
+            leaves_area(&mut lines, &format!("RETR {}\r\0\r\n", "a".repeat(path)), area)?;
         }
         Ok(())
     }
@@ -207,9 +247,9 @@ mod tests {
     #[test]
     fn no_bytes_are_the_start_of_a_line() -> Result<(), Error> {
         let mut lines = Lines::new(0);
-        assert_eq!(take(&mut lines, b"AUTH")?.used, 0);
-        assert_eq!(take(&mut lines, b"")?.used, 0);
-        assert_eq!(take(&mut lines, b"\r\nNOOP\r\n")?.used, 2);
+        assert_eq!(take(&mut lines, b"AUTH")?.0, 0);
+        assert_eq!(take(&mut lines, b"")?.0, 0);
+        assert_eq!(take(&mut lines, b"\r\nNOOP\r\n")?.0, 2);
         Ok(())
     }
 }

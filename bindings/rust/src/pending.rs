@@ -1,5 +1,6 @@
+use crate::command::{Command, Keep};
 use crate::error::Error;
-use crate::event::{Event, Line, Refusal};
+use crate::event::{Event, Line};
 use crate::lines::{Lines, LINE_LIMIT};
 use std::fmt::{self, Debug, Formatter};
 
@@ -60,6 +61,7 @@ impl Pending {
     /// # Errors
     ///
     /// [`Error::OutOfMemory`]; the line is then still pending.
+    #[inline]
     pub fn next_event(&mut self) -> Result<Option<Event<'_>>, Error> {
         take_line(&mut self.lines, &self.received, &mut self.used, &mut self.line)
     }
@@ -116,34 +118,44 @@ impl Pending {
 
 /// Takes the first line of the bytes that are not used up. Then `line` is how many bytes at the end of
 /// the used ones are that line: none where it is too long.
-#[inline]
+#[inline(always)]
 fn take_line<'a>(
     lines: &'a mut Lines,
-    received: &[u8],
+    received: &'a [u8],
     used: &mut usize,
     line: &mut usize,
 ) -> Result<Option<Event<'a>>, Error> {
-    *line = 0;
-    if lines.passes_over(&received[*used..]) {
+    let pending = &received[*used..];
+    if lines.passes_over(pending) {
+        *line = 0;
         return Ok(None);
     }
-    take_line_by_call(lines, received, used, line)
+    take_line_by_call(lines, pending, used, line)
 }
 
 // a function of its own, so that the path without a call needs no stack for an event
 #[inline(never)]
 fn take_line_by_call<'a>(
     lines: &'a mut Lines,
-    received: &[u8],
+    pending: &'a [u8],
     used: &mut usize,
     line: &mut usize,
 ) -> Result<Option<Event<'a>>, Error> {
-    let taken = lines.take(&received[*used..], |event| event)?;
-    *used += taken.used;
-    if !matches!(taken.event, None | Some(Event::Refused(Refusal::LineTooLong))) {
-        *line = taken.used;
+    let taken = lines.take(pending);
+    if Command::is_word(taken.number()) {
+        *line = taken.used();
+        *used += *line;
+        return Command::word(taken.number());
     }
-    Ok(taken.event)
+    *line = 0;
+    let Some(taken) = taken.with_room() else {
+        return Err(Error::OutOfMemory);
+    };
+    if taken.is_line() {
+        *line = taken.used();
+    }
+    *used += taken.used();
+    Ok(taken.event(Keep::BORROWED))
 }
 
 impl Default for Pending {

@@ -2,7 +2,7 @@
 //! too.
 
 /// The version that the crate is written for, as `unftp_version` returns it.
-const NEEDED: u32 = 3_000;
+const NEEDED: u32 = 4_000;
 
 /// Whether a library of this version has the calls, structs and numbers of `ffi`: it has the same
 /// major and minor number, and is no older.
@@ -43,6 +43,6 @@ mod tests {
         ] {
             assert_eq!(fits(version), is_right, "{}", text(version));
         }
-        assert_eq!(needed(), "0.3.0 or later, and before 0.4.0");
+        assert_eq!(needed(), "0.4.0 or later, and before 0.5.0");
     }
 }

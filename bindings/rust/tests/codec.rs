@@ -13,7 +13,7 @@ use tokio::io::{
 };
 use tokio_util::codec::{Decoder, Encoder, Framed, FramedRead};
 use unftp_control::{
-    is_clear, CodecError, Command, Error, Event, FtpClientCodec, FtpCodec, FtpLineCodec,
+    is_clear, CodecError, Command, Error, Event, FtpClientCodec, FtpCodec, FtpLineCodec, Pending,
     ProxyCodec, RawLine, Refusal, Reply, ReplyCode, To,
 };
 
@@ -245,6 +245,40 @@ fn the_pending_bytes_stay_where_they_are() {
     }
     input.extend_from_slice(b"IT\r\n");
     assert_eq!(codec.decode(&mut input).unwrap(), Some(Event::Command(Command::Quit)));
+}
+
+#[test]
+fn a_buffer_that_is_used_up_has_its_room_again() {
+    let mut codec = FtpCodec::with_limit(16);
+    // a command without a field, one with a value, and a piece of a line that is too long
+    for piece in ["NOOP\r\n", "RETR a\r\n", "01234567890123456789"] {
+        let mut input = BytesMut::from(piece);
+        let capacity = input.capacity();
+        codec.decode(&mut input).expect("memory is there");
+        assert_eq!((input.len(), input.capacity()), (0, capacity), "{piece}");
+    }
+}
+
+/// The items that a codec takes from these bytes, which are then gone.
+fn items_of<D: Decoder<Error = CodecError>>(mut codec: D, bytes: &[u8]) -> Vec<D::Item> {
+    let mut input = BytesMut::from(bytes);
+    let items = std::iter::from_fn(|| codec.decode(&mut input).expect("memory is there")).collect();
+    assert_eq!(input, "");
+    items
+}
+
+#[test]
+fn an_event_outlives_its_bytes() {
+    let lines = b"NOOP\r\nRETR a b\r\nRETR a\r\0b\r\nRETR caf\xe9\r\nUSER caf\xe9\r\nauth tls\r\n\
+        REST +5\r\nLIST -la\r\nsite chmod 644 a\r\nclnt x y\r\nclnt\r\nNOOP x\r\n\r\n";
+    let mut pending = Pending::new();
+    pending.push(lines).expect("memory is there");
+    let events = items_of(FtpCodec::new(), lines);
+    assert_eq!(events.len(), 13);
+    for (event, item) in events.into_iter().zip(items_of(FtpLineCodec::new(), lines)) {
+        let line = pending.next_line().expect("memory is there").expect("a line is pending");
+        assert_eq!((&event, &item.event, &item.bytes[..]), (&line.event, &line.event, line.bytes));
+    }
 }
 
 #[test]

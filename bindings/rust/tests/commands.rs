@@ -131,6 +131,47 @@ fn what_is_borrowed_is_not_copied() {
     assert_eq!(username.into_vec(), b"c");
 }
 
+/// The last field of a command with texts or bytes.
+fn value_of<'a>(command: &'a Command<'_>) -> &'a [u8] {
+    match command {
+        Command::User { username } => username,
+        Command::Pass { password } => password.as_bytes(),
+        Command::Stat { path: Some(path) } => path,
+        Command::Retr { path } | Command::List { path: Some(path), .. } => path.as_bytes(),
+        Command::Site { arguments, .. } | Command::Other { arguments, .. } => arguments.as_bytes(),
+        command => panic!("{command:?}"),
+    }
+}
+
+#[test]
+fn a_value_is_a_part_of_its_line_where_that_has_it() {
+    let rows = [
+        (&b"retr a b\r\n"[..], &b"a b"[..], true),
+        (b"RETR a\r\0b\r\n", b"a\rb", false),
+        (b"RETR caf\xc3\xa9\n", b"caf\xc3\xa9", true),
+        (b"RETR caf\xe9\r\n", b"caf\xef\xbf\xbd", false),
+        (b"LIST -la x\r\n", b"x", true),
+        (b"USER caf\xe9\r\n", b"caf\xe9", true),
+        (b"PASS a\r\0\r\n", b"a\r", false),
+        (b"STAT \xff\r\n", b"\xff", true),
+        (b"site chmod 644 a\r\n", b"644 a", true),
+        (b"site chmod \xff\r\n", b"\xef\xbf\xbd", false),
+        (b"clnt x y\r\n", b"x y", true),
+        (b"clnt x\r\0y\r\n", b"x\ry", false),
+    ];
+    // all together, so that each area has what the line before left in it
+    let mut pending = Pending::new();
+    pending.push(&rows.map(|(line, ..)| line).concat()).expect("memory is there");
+    for (bytes, value, is_part) in rows {
+        let line = pending.next_line().expect("memory is there").expect("a line is pending");
+        assert_eq!(line.bytes, bytes);
+        let Event::Command(command) = &line.event else { panic!("{line:?}") };
+        let found = value_of(command);
+        assert_eq!(found, value, "{}", bytes.escape_ascii());
+        assert_eq!(line.bytes.as_ptr_range().contains(&found.as_ptr()), is_part, "{line:?}");
+    }
+}
+
 #[test]
 fn bytes_are_as_they_were_sent_and_texts_are_utf8() {
     let user = Command::User { username: b"caf\xe9\r".into() };

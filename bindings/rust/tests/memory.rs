@@ -1,8 +1,8 @@
-//! A client that is out of memory.
+//! Ends that are out of memory.
 use std::alloc::{GlobalAlloc, Layout, System};
 use std::cell::Cell;
 use std::ptr::null_mut;
-use unftp_control::{Client, Error};
+use unftp_control::{AuthParam, Client, Command, Error, Event, Pending};
 
 thread_local! {
     /// How many allocations of this thread go well before one fails.
@@ -64,4 +64,31 @@ fn a_line_that_is_not_sent_costs_nothing() {
     let numbers = (0..100).map(|count: u64| count.to_string());
     assert!(client.into_values().eq(numbers));
     assert_eq!(output, b"NOOP\r\n".repeat(100));
+}
+
+/// The next event, where no allocation succeeds.
+fn event_without_memory(pending: &mut Pending) -> Result<Option<Event<'_>>, Error> {
+    LEFT.set(0);
+    let event = pending.next_event();
+    LEFT.set(usize::MAX);
+    event
+}
+
+#[test]
+fn a_line_that_has_its_value_as_it_is_takes_no_memory() -> Result<(), Error> {
+    let mut pending = Pending::new();
+    pending.push(b"noop\r\nRETR a b\r\nauth tls\r\nclnt x\r\nQUIT\r\n")?;
+    assert_eq!(event_without_memory(&mut pending)?, Some(Event::Command(Command::Noop)));
+    let retr = Command::Retr { path: "a b".into() };
+    assert_eq!(event_without_memory(&mut pending)?, Some(Event::Command(retr)));
+    // the line stays pending
+    assert_eq!(event_without_memory(&mut pending), Err(Error::OutOfMemory));
+    assert!(pending.bytes().starts_with(b"auth"));
+    let auth = Command::Auth { protocol: AuthParam::Tls };
+    assert_eq!(pending.next_event()?, Some(Event::Command(auth)));
+    // there is room for a name by now
+    let other = Command::Other { command_name: "CLNT".into(), arguments: "x".into() };
+    assert_eq!(event_without_memory(&mut pending)?, Some(Event::Command(other)));
+    assert_eq!(event_without_memory(&mut pending)?, Some(Event::Command(Command::Quit)));
+    Ok(())
 }
