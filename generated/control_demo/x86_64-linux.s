@@ -1,10 +1,10 @@
 /*
- * unftp_control 0.3.0: the program control_demo, for Linux on x86-64.
+ * unftp_control 0.4.0: the program control_demo, for Linux on x86-64.
  * This file is generated: generated/README.md says how.
  *
  * made by: tools/generated --write
  * toolchain: rattle-kit-13f logic dac8208d650f15bf
- * sources: sha256 88aaaee6097a227aeff63299134d78775da96b545838f48949ca69cd549756fc
+ * sources: sha256 50a81b9c9e9a8163e59682c3ba7c1dada4bb5d358098c4cf3580176a9b557beb
  */
 	.section	".text.std_io::io::error::Error::from_raw_os_error","ax",@progbits
 	.p2align	4

@@ -1,10 +1,10 @@
 /*
- * unftp_control 0.3.0: the program login_demo, for Linux on x86-64.
+ * unftp_control 0.4.0: the program login_demo, for Linux on x86-64.
  * This file is generated: generated/README.md says how.
  *
  * made by: tools/generated --write
  * toolchain: rattle-kit-13f logic dac8208d650f15bf
- * sources: sha256 a9e473d17eaf014d41bc41567978ab0b48cf69bd63ff2f0b047b4dfe49b9b957
+ * sources: sha256 3049600040e104c9db1821610b17fd2e31c54eef8b7a16b48b470a948122e009
  */
 	.section	.rodata.cst16,"aM",@progbits,16
 	.p2align	4, 0x0
