@@ -17,6 +17,7 @@ use unftp_control_codecs::{FirstLine, FtpCodec};
 use unftp_control_commands::pieces::overwrite;
 use unftp_control_message::Command;
 use unftp_control_message::parts::{Parts, Value, Verb};
+use unftp_control_message::utf8::LONG;
 
 /// What a caller keeps of a connection: `struct unftp_connection` of include/unftp_control.h.
 #[repr(C)]
@@ -153,8 +154,11 @@ fn take_line(
     if let Some(verb) = words.lone_verb() {
         return give_verb(verb, bytes, connection, line);
     }
-    if let Some(value) = words.usual_value() {
-        return give_value(words.verb(), value, bytes, connection, line);
+    // `parts` tests a longer text by blocks
+    if bytes.len() < LONG {
+        if let Some(value) = words.usual_value() {
+            return give_value(words.verb(), value, bytes, connection, line);
+        }
     }
     match words.parts() {
         Ok(parts) => give_command(alloc, parts, bytes, connection, area, line),
