@@ -31,9 +31,9 @@
  *     unftp_front_reply            bytes               reply                    none
  *     unftp_reply_lines            bytes               out, len                 40 n + 100
  *     unftp_canonical              line                out, len                 some
- *     unftp_forward                line                out, len                 none
+ *     unftp_forward                line                out, len, clear          none
  *     unftp_is_clear               line                nothing                  none
- *     unftp_log_line               number, line        out, len                 3 *len + 32
+ *     unftp_log_line               number, line        out, len, hides          3 *len + 32
  *     unftp_log_exchange           shown, replies      out, len                 40 n + 100
  *     unftp_client_line            client, line        client, place            none
  *     unftp_client_reply           client, code        client, place            none
@@ -518,8 +518,9 @@ enum unftp_result unftp_canonical(const char *line, size_t line_len,
  *     rest +07               REST 7                 REST 7
  *
  * It keeps what servers read in different ways: a bare CR, a NUL or a byte 255 in a parameter, and
- * a verb with other bytes than letters and digits. A proxy that allows only some commands doesn't
- * send such a line (unftp_is_clear).
+ * a verb with other bytes than letters and digits. *clear is 1 where what is written has none of
+ * them, as by unftp_is_clear, and else 0; it is 0 but at UNFTP_DONE. A proxy that allows only some
+ * commands sends no line that is not clear.
  *
  * It returns UNFTP_DONE; UNFTP_NO_LINE exactly where the bytes have no line feed at their end, or
  * one before it; UNFTP_INVALID_COMMAND, UNFTP_INVALID_UTF8 or UNFTP_INVALID_EOL for a line that is
@@ -528,14 +529,15 @@ enum unftp_result unftp_canonical(const char *line, size_t line_len,
  * measured, and not proved.
  */
 enum unftp_result unftp_forward(const char *line, size_t line_len,
-                                char *out, size_t out_room, size_t *len) UNFTP_NONNULL;
+                                char *out, size_t out_room, size_t *len,
+                                uint32_t *clear) UNFTP_NONNULL;
 
 /*
  * 1 where a line is clear, and else 0: its verb has only letters and digits of ASCII, and at least
  * one, and before the CR LF at its end there is no CR, LF, NUL or byte 255. So it has none of the
- * bytes that servers are known to read in different ways. A proxy that refuses commands asks it of
- * each line that it sends: in any other line, as "TYPE A\rSITE x\r\n", a server may read a command
- * that unftp_next does not, or send no reply to it.
+ * bytes that servers are known to read in different ways. A proxy that refuses commands sends no
+ * other line: in one as "TYPE A\rSITE x\r\n" a server may read a command that unftp_next does not,
+ * or send no reply to it. unftp_forward says it of what it writes.
  *
  * It is a form of line, and no promise that all servers read it alike. Known exceptions are
  * "TYPE  I" with two spaces, NOOP with spaces or 5,000 bytes after it, "SIZE ~/a", and
@@ -576,8 +578,13 @@ uint32_t unftp_is_clear(const char *line, size_t line_len) UNFTP_NONNULL;
  * `: `, and why; nothing is shown of its parameter but that. Why is one of `Invalid command`,
  * `Non-UTF8 character while parsing`, `Invalid end-of-line` and `Line too long`. So a log shows of
  * a password that it has an invalid line ending, as that of "PASS se\rcret\r\n" has. The last one
- * comes by the number UNFTP_LINE_TOO_LONG, and without a verb. At any other number the line is read
- * anew, and the number says nothing more.
+ * comes by the number UNFTP_LINE_TOO_LONG, and without a verb. Any other number says nothing: what
+ * the line is, its own bytes say.
+ *
+ * *hides is 1 where a part of the line is not shown, and else 0; it is 0 at UNFTP_OUT_OF_MEMORY. A
+ * part is hidden of a refused line; of PASS, ACCT and a verb that is ***; where *** stands for
+ * arguments; and where SYST and HELP have a text, and TYPE, EPSV and ALLO an invalid end. A server
+ * may repeat it in its reply.
  *
  * It returns UNFTP_DONE; UNFTP_NO_ROOM, where *len is the room that is needed; or
  * UNFTP_OUT_OF_MEMORY. out is as it was but at UNFTP_DONE. A line of n bytes needs at most 4 n +
@@ -587,7 +594,8 @@ uint32_t unftp_is_clear(const char *line, size_t line_len) UNFTP_NONNULL;
  * that there was a line.
  */
 enum unftp_result unftp_log_line(uint32_t number, const char *line, size_t line_len,
-                                 char *out, size_t out_room, size_t *len) UNFTP_NONNULL;
+                                 char *out, size_t out_room, size_t *len,
+                                 uint32_t *hides) UNFTP_NONNULL;
 
 /*
  * Writes what a log shows of an exchange, a line of a client and its replies, to the start of out,

@@ -74,11 +74,12 @@ static void write_lines(const char *line, size_t len)
 
 static void forward_lines(const char *line, size_t len)
 {
+    uint32_t clear;
     char out[ROOM];
     size_t written;
 
     for (int call = 0; call < CALLS; call++)
-        wants(unftp_forward(line, len, out, sizeof out, &written) == UNFTP_DONE);
+        wants(unftp_forward(line, len, out, sizeof out, &written, &clear) == UNFTP_DONE);
 }
 
 static int compare(const void *left, const void *right)

@@ -139,8 +139,9 @@ static void log_line(enum unftp_result number, const char *line, size_t line_len
 {
     char shown[LOG_ROOM];
     size_t len;
+    uint32_t hides; /* not read: no text of the server's replies is logged */
     enum unftp_result result =
-        unftp_log_line((uint32_t)number, line, line_len, shown, sizeof shown, &len);
+        unftp_log_line((uint32_t)number, line, line_len, shown, sizeof shown, &len, &hides);
 
     if (result == UNFTP_DONE)
         fprintf(stderr, "relay %ld: line %.*s\n", (long)getpid(), (int)len, shown);
@@ -192,10 +193,11 @@ static void forward_line(struct session *session, enum unftp_result command, con
     struct buffer *to = &session->server.to;
     size_t room = make_room(to), len;
     char *forwarded = to->bytes + to->end;
+    uint32_t clear;
     uint64_t place;
-    enum unftp_result result = unftp_forward(line, line_len, forwarded, room, &len);
+    enum unftp_result result = unftp_forward(line, line_len, forwarded, room, &len, &clear);
 
-    if (result == UNFTP_DONE && unftp_is_clear(forwarded, len) == 0) {
+    if (result == UNFTP_DONE && clear == 0) {
         hold_answer(session, UNFTP_CODE_PARAMETER_SYNTAX_ERROR, "CR, NUL or 255 in a parameter");
         return;
     }

@@ -264,7 +264,7 @@ impl Encoder<&[u8]> for FtpClientCodec {
     type Error = CodecError;
 
     fn encode(&mut self, line: &[u8], dst: &mut BytesMut) -> Result<(), CodecError> {
-        self.append(&forward(line)?, dst)
+        self.append(&forward(line)?.bytes, dst)
     }
 }
 
@@ -272,7 +272,7 @@ impl<const N: usize> Encoder<&[u8; N]> for FtpClientCodec {
     type Error = CodecError;
 
     fn encode(&mut self, line: &[u8; N], dst: &mut BytesMut) -> Result<(), CodecError> {
-        self.append(&forward(line)?, dst)
+        self.append(&forward(line)?.bytes, dst)
     }
 }
 
@@ -280,7 +280,7 @@ impl Encoder<Vec<u8>> for FtpClientCodec {
     type Error = CodecError;
 
     fn encode(&mut self, line: Vec<u8>, dst: &mut BytesMut) -> Result<(), CodecError> {
-        self.append(&forward(&line)?, dst)
+        self.append(&forward(&line)?.bytes, dst)
     }
 }
 

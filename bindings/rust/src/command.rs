@@ -448,7 +448,7 @@ impl Display for Command<'_> {
         match (self.to_line(), self) {
             (Ok(_), _) => {
                 let line = self.line_with(self.value());
-                f.write_str(&log::shown(self.number(), &line).map_err(|_| fmt::Error)?)
+                f.write_str(&log::shown(self.number(), &line).map_err(|_| fmt::Error)?.text)
             }
             (Err(Error::NoLine), Command::Other { .. }) => f.write_str("***"),
             (Err(Error::NoLine), _) => f.write_str(self.verb()),

@@ -192,6 +192,7 @@ extern "C" {
         out: *mut u8,
         out_room: usize,
         len: *mut usize,
+        clear: *mut u32,
     ) -> u32;
 
     #[cfg_attr(not(feature = "system"), link_name = own_name!("is_clear"))]
@@ -205,6 +206,7 @@ extern "C" {
         out: *mut u8,
         out_room: usize,
         len: *mut usize,
+        hides: *mut u32,
     ) -> u32;
 
     #[cfg_attr(not(feature = "system"), link_name = own_name!("log_exchange"))]
@@ -510,15 +512,17 @@ pub(crate) fn canonical(line: &[u8], out: &mut [u8]) -> (u32, usize) {
     (status, len)
 }
 
-/// Calls `unftp_forward`: what it returns, and the length.
-pub(crate) fn forward(line: &[u8], out: &mut [u8]) -> (u32, usize) {
+/// Calls `unftp_forward`: what it returns, the length, and whether what is written is clear.
+pub(crate) fn forward(line: &[u8], out: &mut [u8]) -> (u32, usize, bool) {
     check_version();
-    let mut len = 0;
+    let (mut len, mut clear) = (0, 0);
     // SAFETY: no pointer is null, since each is of a reference, and each length is that of the
-    // slice beside it. Nothing overlaps: `out` is mutably borrowed, and `len` is a variable here.
-    let status =
-        unsafe { unftp_forward(line.as_ptr(), line.len(), out.as_mut_ptr(), out.len(), &mut len) };
-    (status, len)
+    // slice beside it. Nothing overlaps: `out` is mutably borrowed, and `len` and `clear` are
+    // variables here.
+    let status = unsafe {
+        unftp_forward(line.as_ptr(), line.len(), out.as_mut_ptr(), out.len(), &mut len, &mut clear)
+    };
+    (status, len, clear != 0)
 }
 
 /// Calls `unftp_is_clear`.
@@ -528,16 +532,25 @@ pub(crate) fn is_clear(line: &[u8]) -> bool {
     unsafe { unftp_is_clear(line.as_ptr(), line.len()) != 0 }
 }
 
-/// Calls `unftp_log_line`: what it returns, and the length.
-pub(crate) fn log_line(number: u32, line: &[u8], out: &mut [u8]) -> (u32, usize) {
+/// Calls `unftp_log_line`: what it returns, the length, and whether a part of the line is hidden.
+pub(crate) fn log_line(number: u32, line: &[u8], out: &mut [u8]) -> (u32, usize, bool) {
     check_version();
-    let mut len = 0;
+    let (mut len, mut hides) = (0, 0);
     // SAFETY: no pointer is null, since each is of a reference, and each length is that of the
-    // slice beside it. Nothing overlaps: `out` is mutably borrowed, and `len` is a variable here.
+    // slice beside it. Nothing overlaps: `out` is mutably borrowed, and `len` and `hides` are
+    // variables here.
     let status = unsafe {
-        unftp_log_line(number, line.as_ptr(), line.len(), out.as_mut_ptr(), out.len(), &mut len)
+        unftp_log_line(
+            number,
+            line.as_ptr(),
+            line.len(),
+            out.as_mut_ptr(),
+            out.len(),
+            &mut len,
+            &mut hides,
+        )
     };
-    (status, len)
+    (status, len, hides != 0)
 }
 
 /// Calls `unftp_log_exchange`: what it returns, and the length.

@@ -39,8 +39,8 @@
 )]
 //!
 //! A [`Login`] says which events need a login, and answers those that come without one. [`log_line`]
-//! is what a log may show of a line: nothing of what PASS and ACCT have. [`log_exchange`] is what it
-//! may show of a line with its replies.
+//! is what a log may show of a line: nothing of what PASS and ACCT have, and whether it hides a part.
+//! [`log_exchange`] is what it may show of a line with its replies.
 //!
 //! # A client
 //!
@@ -52,8 +52,8 @@
 //! # A proxy
 //!
 //! [`forward`] is the line that a proxy sends to a server for a client's line, and [`canonical`]
-//! the one line that means what a client's line does. Before it forwards a line, a proxy refuses
-//! one that is not clear ([`is_clear`]), with bytes that servers read in different ways. With a
+//! the one line that means what a client's line does. A proxy sends no line that is not
+//! [clear](Forwarded::is_clear): one with bytes that servers read in different ways. With a
 //! [`Client`] toward the server, a line that the proxy answers itself waits until the
 //! [greeting](Client::is_greeted) is complete, [`owed`](Client::owed) is 0, and the proxy has passed
 //! on each reply that it has taken.
@@ -139,7 +139,7 @@ pub use address::{
     extended, extended_port, find_extended_port, find_host_port, host_port, read_extended,
     read_host_port, AddressError,
 };
-pub use canonical::{canonical, forward, is_clear};
+pub use canonical::{canonical, forward, is_clear, Forwarded};
 pub use client::{Client, ClientReply, ReplyValue, SendError, To};
 pub use code::{ReplyCode, UnknownCode};
 #[cfg(feature = "tokio-util")]
@@ -150,7 +150,7 @@ pub use event::{list_path, parameter, Event, Line, Refusal};
 #[cfg(feature = "tokio-util")]
 pub use line_codec::{FtpLineCodec, OwnedLine};
 pub use lines::LINE_LIMIT;
-pub use log::{log_exchange, log_line};
+pub use log::{log_exchange, log_line, LogLine};
 pub use login::{Login, LoginStep};
 pub use parameters::{AuthParam, ModeParam, Opt, ProtParam, StruParam};
 pub use pending::Pending;

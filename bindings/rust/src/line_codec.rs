@@ -3,7 +3,7 @@ use crate::command::Keep;
 use crate::error::Error;
 use crate::event::{list_path, parameter, Event};
 use crate::lines::{Lines, LINE_LIMIT};
-use crate::log::log_line;
+use crate::log::{log_line, LogLine};
 use crate::reply::Reply;
 use bytes::{Buf, Bytes, BytesMut};
 use std::fmt::{self, Debug, Formatter};
@@ -47,7 +47,7 @@ impl OwnedLine {
     /// # Errors
     ///
     /// [`Error::OutOfMemory`](crate::Error::OutOfMemory).
-    pub fn log_line(&self) -> Result<String, crate::Error> {
+    pub fn log_line(&self) -> Result<LogLine, crate::Error> {
         log_line(&self.event, &self.bytes)
     }
 }

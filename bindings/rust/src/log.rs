@@ -2,6 +2,33 @@ use crate::area::written;
 use crate::error::Error;
 use crate::event::{Event, Line};
 use crate::ffi;
+use std::fmt::{self, Display, Formatter};
+
+/// What a log shows of a line of a client: what [`log_line`] returns.
+#[derive(Clone, Debug, PartialEq, Eq)]
+#[non_exhaustive]
+pub struct LogLine {
+    /// The text, in printable ASCII without a line end.
+    pub text: String,
+    /// Whether a part of the line is not shown. A server may repeat it in its reply.
+    ///
+    /// It is true of a refused line; of PASS, ACCT and a verb that is not listed; of the arguments
+    /// that a verb or a subcommand of SITE hides, also where there are none; of a text that SYST and
+    /// HELP ignore; and of a parameter with an invalid line ending, which TYPE, EPSV and ALLO ignore.
+    pub hides_part: bool,
+}
+
+impl Display for LogLine {
+    fn fmt(&self, f: &mut Formatter<'_>) -> fmt::Result {
+        f.pad(&self.text)
+    }
+}
+
+impl From<LogLine> for String {
+    fn from(line: LogLine) -> String {
+        line.text
+    }
+}
 
 /// What a log shows of a line of a client, in printable ASCII without a line end, and without
 /// passwords and accounts. The event and the line are those that
@@ -46,23 +73,31 @@ use crate::ffi;
 /// while let Some(line) = pending.next_line()? {
 ///     log.push(log_line(&line.event, line.bytes)?);
 /// }
-/// assert_eq!(log, ["PASS ***", "***", "TYPE a", "refused NOOP: Invalid command"]);
+/// let texts: Vec<&str> = log.iter().map(|line| &*line.text).collect();
+/// assert_eq!(texts, ["PASS ***", "***", "TYPE a", "refused NOOP: Invalid command"]);
+/// assert!(log[0].hides_part && !log[2].hides_part);
 /// # Ok::<(), unftp_control::Error>(())
 /// ```
 ///
 /// # Errors
 ///
 /// [`Error::OutOfMemory`].
-pub fn log_line(event: &Event<'_>, line: &[u8]) -> Result<String, Error> {
+pub fn log_line(event: &Event<'_>, line: &[u8]) -> Result<LogLine, Error> {
     shown(event.number(), line)
 }
 
 /// The log line of a line for which `unftp_next` returned this number.
-pub(crate) fn shown(number: u32, line: &[u8]) -> Result<String, Error> {
-    let bytes = written(line_room(line), |out| ffi::log_line(number, line, out))?;
-    Ok(String::from_utf8(bytes).unwrap_or_else(|_| {
+pub(crate) fn shown(number: u32, line: &[u8]) -> Result<LogLine, Error> {
+    let mut hides_part = false;
+    let bytes = written(line_room(line), |out| {
+        let (status, len, hides) = ffi::log_line(number, line, out);
+        hides_part = hides;
+        (status, len)
+    })?;
+    let text = String::from_utf8(bytes).unwrap_or_else(|_| {
         unreachable!("`log_lines_are_logged`: each byte of a log line is printable ASCII")
-    }))
+    });
+    Ok(LogLine { text, hides_part })
 }
 
 /// How many bytes the log line of a line most often takes at most: why it is refused takes 42, and
@@ -83,12 +118,13 @@ fn exchange_room(line: &str, replies: &[u8]) -> usize {
 /// and after a space its text, if any, escaped as by [`log_line`], with an escaped CR LF between two
 /// lines.
 ///
-/// The line is what [`log_line`] returned for it: keep that until the replies come, and not the
-/// line, which may have a password. `None`, and an empty text, is no line: so the greeting is
+/// The line is the text that [`log_line`] returned for it: keep that until the replies come, and not
+/// the line, which may have a password. `None`, and an empty text, is no line: so the greeting is
 /// logged. The replies are their bytes, one after the other: those of
 /// [`ReceivedReply::bytes`](crate::ReceivedReply::bytes) and
 /// [`Reply::to_bytes`](crate::Reply::to_bytes). There may be none. A server may repeat in a reply
-/// what was hidden of a line: to hide the text of a reply, pass its three digits and a CR LF.
+/// what was hidden of a line, where [`LogLine::hides_part`]: to hide the text of a reply, pass its
+/// three digits and a CR LF.
 ///
 /// ```
 /// use unftp_control::{log_exchange, ReplyDecoder};
@@ -127,7 +163,7 @@ impl Line<'_> {
     /// # Errors
     ///
     /// [`Error::OutOfMemory`].
-    pub fn log_line(&self) -> Result<String, Error> {
+    pub fn log_line(&self) -> Result<LogLine, Error> {
         log_line(&self.event, self.bytes)
     }
 }
@@ -151,7 +187,7 @@ mod tests {
         ] {
             let mut pending = Pending::new();
             pending.push(line)?;
-            let logged = pending.next_line()?.expect("a line").log_line()?;
+            let logged = pending.next_line()?.expect("a line").log_line()?.text;
             assert!(logged.len() <= line_room(line), "{logged}");
         }
         let feat = b"211-Features:\r\n SIZE\r\n MDTM\r\n UTF8\r\n TVFS\r\n EPSV\r\n211 End\r\n";

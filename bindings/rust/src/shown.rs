@@ -36,5 +36,5 @@ fn is_word(name: &str) -> bool {
 
 /// What a log shows of a line of this text; nothing when out of memory.
 fn logged(text: &str) -> String {
-    log::shown(0, format!("{text}\r\n").as_bytes()).unwrap_or_default()
+    log::shown(0, format!("{text}\r\n").as_bytes()).map(String::from).unwrap_or_default()
 }

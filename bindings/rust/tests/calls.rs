@@ -372,11 +372,11 @@ fn a_canonical_line_says_the_same() -> Result<(), Error> {
 
 #[test]
 fn a_forwarded_line_keeps_what_its_command_drops() -> Result<(), Error> {
-    assert_eq!(forward(b"type a\n")?, b"TYPE a\r\n");
-    assert_eq!(forward(b"LIST -la x\r\n")?, b"LIST -la x\r\n");
-    assert_eq!(forward(b"RETR a\xe9\r\n")?, b"RETR a\xe9\r\n");
-    assert_eq!(forward(b"xcwd a\n")?, b"XCWD a\r\n");
-    assert_eq!(forward(b"noop \n")?, b"NOOP\r\n");
+    assert_eq!(forward(b"type a\n")?.bytes, b"TYPE a\r\n");
+    assert_eq!(forward(b"LIST -la x\r\n")?.bytes, b"LIST -la x\r\n");
+    assert_eq!(forward(b"RETR a\xe9\r\n")?.bytes, b"RETR a\xe9\r\n");
+    assert_eq!(forward(b"xcwd a\n")?.bytes, b"XCWD a\r\n");
+    assert_eq!(forward(b"noop \n")?.bytes, b"NOOP\r\n");
     assert_eq!(forward(b"TYPE A"), Err(Error::NotALine));
     assert_eq!(forward(b"NOOP x\r\n"), Err(Error::Refused(Refusal::InvalidCommand)));
     Ok(())
@@ -392,7 +392,7 @@ fn texts_of_100_kb_go_through_each_call() -> Result<(), Error> {
     assert_eq!(pending.next_event()?, command(retr));
     assert_eq!(canonical(line.as_bytes())?, line.as_bytes());
     let listing = format!("LIST -a {path}\r\n");
-    assert_eq!(forward(listing.as_bytes())?, listing.as_bytes());
+    assert_eq!(forward(listing.as_bytes())?.bytes, listing.as_bytes());
     let bytes = reply(ReplyCode::FILE_ACTION_OKAY, [&path])?;
     assert_eq!(bytes, format!("250 {path}\r\n").as_bytes());
     let (code, used) = (250, bytes.len());

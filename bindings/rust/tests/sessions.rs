@@ -16,7 +16,7 @@ fn each_line_has_its_log_line() {
         pending.push(&bytes(&words[1])).expect("memory is there");
         let line = pending.next_line().expect("memory is there").expect("a line");
         let logged = line.log_line().expect("memory is there");
-        assert_eq!(logged.as_bytes(), bytes(&answer), "{words:?}");
+        assert_eq!(logged.text.as_bytes(), bytes(&answer), "{words:?}");
     }
 }
 
@@ -30,7 +30,7 @@ fn a_command_is_shown_as_its_log_line() {
             pending.push(&written).expect("memory is there");
             let line = pending.next_line().expect("memory is there").expect("a line");
             let Event::Command(command) = &line.event else { panic!("{words:?}") };
-            let logged = line.log_line().expect("memory is there");
+            let logged = line.log_line().expect("memory is there").text;
             let wanted = match command {
                 Command::Type | Command::Allo => command.verb().into(),
                 _ => logged.replacen("LIST -- -", "LIST -", 1),
@@ -301,7 +301,7 @@ fn nothing_shows_a_password() {
         if let Event::Command(command) = &event {
             shown += &command.to_string();
         }
-        shown += &log_line(&event, b"PASS s3cret\r\n").expect("memory is there");
+        shown += &log_line(&event, b"PASS s3cret\r\n").expect("memory is there").text;
     }
     let other = Command::Other { command_name: "PSAS".into(), arguments: "s3cret\n".into() };
     shown += &format!("{other} {other:?}");

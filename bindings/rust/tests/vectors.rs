@@ -6,8 +6,8 @@ use common::{
     bytes, calls, limit, pieces, shown_decoded, shown_event, shown_reply, sizes, without_lefts,
 };
 use unftp_control::{
-    canonical, forward, list_path, log_exchange, parameter, quoted_path, reply, Error, Pending,
-    Refusal, Reply, ReplyCode, ReplyDecoder,
+    canonical, forward, is_clear, list_path, log_exchange, parameter, quoted_path, reply, Error,
+    Pending, Refusal, Reply, ReplyCode, ReplyDecoder,
 };
 
 /// The events of all lines that are pending.
@@ -75,7 +75,8 @@ fn each_other_line_is_forwarded_with_its_parameter() {
                 let space: &[u8] = if sent.is_empty() { b"" } else { b" " };
                 [&verb, space, sent, b"\r\n"].concat()
             };
-            assert_eq!(forwarded, wanted, "{words:?}");
+            assert_eq!(forwarded.bytes, wanted, "{words:?}");
+            assert_eq!(forwarded.is_clear, is_clear(&wanted), "{words:?}");
             lines += 1;
         }
     }
@@ -334,7 +335,7 @@ fn padded(reply: &Reply) -> Vec<Vec<u8>> {
 fn each_line_is_forwarded_or_not() {
     for (words, answer) in calls("worked.tsv", &["forward"]) {
         let forwarded = match forward(&bytes(&words[0])) {
-            Ok(line) => common::shown::quoted(&line),
+            Ok(line) => common::shown::quoted(&line.bytes),
             Err(Error::NotALine) => "NotALine".to_string(),
             Err(Error::Refused(refusal)) => {
                 format!("err {}", common::shown::shown_refusal(refusal))

@@ -74,8 +74,8 @@ transfer_outcome Store bytes = with_opening receiving
 
 -- ---- the session
 
--- Which transfer is to follow; where in the file it begins (RFC 3659, section 5); the file; how many
--- calls of the data connection were made; and whether QUIT came.
+-- Which transfer is to follow; where in the file it begins (RFC 3659, section 5); the file; how
+-- many calls of the data connection were made; and whether QUIT came.
 pub record TransferState : Type 0 where
   pub pending : Option Transfer
   pub offset : ℕ

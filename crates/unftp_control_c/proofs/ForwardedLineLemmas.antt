@@ -1,13 +1,9 @@
 -- The line that is forwarded, and how it is written.
-use Rattle.std.proofs.Common.{◌≡◌, ◌<◌, ◌-◌, ◌==◌, true, false, [], ◌∷◌, ◌++◌, length, take, drop, Some, Result, Ok, Err, append_assoc, refl, ap, sym, subst, ◌∙◌, arith, length-append}
-use Rattle.std.proofs.Math.Seq.{drop-append_seam, take-append_seam}
-use Rattle.std.proofs.lemmas.Bool.{cond_both, false≢true}
+use Rattle.std.proofs.Common.{◌≡◌, ◌≢◌, ◌<◌, true, false, [], ◌∷◌, ◌++◌, length, Some, Ok, Err, Bor, append_assoc, refl, ap, sym, subst, ◌∙◌, arith, rules}
 use Rattle.std.proofs.lemmas.Option.{none-some, same_Some}
-use Rattle.std.proofs.lemmas.List.{append_cancel_right, take-append-drop}
-use lib.Pointwise.{bytes_decides}
-use Rattle.unftp_control_defs.specs.Bytes.{Bytes, CR, LF, SP, crlf, Lacks}
-use Rattle.unftp_control_defs.specs.Forwarded.{before_end, with_parameter}
-use Rattle.unftp_control_defs.specs.FtpCommand.{InvalidCommand, InvalidEol, InvalidUtf8, Value, Nothing, Raw, Text, Chosen, Number}
+use Rattle.unftp_control_defs.specs.Bytes.{Bytes, SP, crlf}
+use Rattle.unftp_control_defs.specs.Forwarded.{before_end, kind_keeps, with_parameter}
+use Rattle.unftp_control_defs.specs.FtpCommand.{FtpCommand, InvalidCommand, InvalidEol, InvalidUtf8, Outcome, Said, Value, Nothing, Raw, Text, Chosen, Number, kind, said}
 use Rattle.unftp_control_defs.specs.Lines.{IsLine}
 use Rattle.unftp_control_defs.specs.Outcome.{outcome}
 use Rattle.unftp_control_defs.specs.Canonical.{with_optional}
@@ -20,21 +16,23 @@ use Rattle.unftp_control_defs.specs.declared.parameters.ModeParam.TheVariants.{S
 use Rattle.unftp_control_defs.specs.declared.parameters.Opt.TheVariants.{Utf8}
 use Rattle.unftp_control_defs.specs.declared.parameters.ProtParam.TheVariants.{Clear}
 use Rattle.unftp_control_defs.specs.declared.parameters.StruParam.TheVariants.{File}
+use Rattle.unftp_control_defs.specs.declared.verb.Verb.{Verb}
 use Rattle.unftp_control_defs.proofs.EscapeLemmas.{escaped-decimal}
-use Rattle.unftp_control_defs.specs.Verbs.{upper}
-use Rattle.unftp_control_defs.proofs.ForwardedLineLemmas.{before_end-crlf, before_end-lf}
 use Rattle.unftp_control_codecs.specs.Memory.{IsRefusal}
 use Rattle.unftp_control_message.specs.PartsMeaning.{IsInPlace, said_of, said_value}
 use Rattle.unftp_control_message.specs.declared.parts.Parts.{Parts}
 use Rattle.unftp_control_message.specs.declared.parts.Value.{Value as ReadValue}
 use Rattle.unftp_control_message.specs.declared.parts.Value.TheVariants as read
 use Rattle.unftp_control_message.specs.declared.reply.error.parse_error.ParseErrorKind.{ParseErrorKind}
-use Rattle.unftp_control_message.specs.declared.reply.error.parse_error.ParseErrorKind.TheVariants as kind
+use Rattle.unftp_control_message.specs.declared.reply.error.parse_error.ParseErrorKind.TheVariants as kind_of
 use Rattle.unftp_control_write.specs.Forwarding.{IsForwarded, sent_line}
 use Rattle.unftp_control_write.proofs.ForwardingLemmas.{all_forwarded}
-use Rattle.unftp_control_c.specs.ForwardedLines.{HasNoText, IsForwardedLine}
-use Rattle.unftp_control_c.specs.Next.{has_end, line_text}
-use Rattle.unftp_control_c.specs.Numbers.{kind_status}
+use Rattle.unftp_control_c.specs.ForwardedLines.{ForwardsTo, HasNoText, IsForwardedLine, IsSentFor, IsWritable, forwarded_text}
+use Rattle.unftp_control_c.specs.Numbers.{kind_status, status_number}
+use Rattle.unftp_control_c.specs.declared.status.Status.{Status}
+use Rattle.unftp_control_c.specs.declared.status.Status.TheVariants.{NoLine}
+use Rattle.unftp_control_c.specs.declared.forwarding.Forwarded.{Forwarded}
+use Rattle.unftp_control_c.specs.declared.forwarding.Forwarded.TheVariants.{Kept, Typed}
 
 -- a value of a type of its own is in place, and written as it is
 pub in_place : (value : ReadValue) → HasNoText (said_value value) → IsInPlace value
@@ -60,11 +58,6 @@ typed_line word (Chosen choice) bytes none is =
 typed_line word (Number number) bytes none is =
     ap (λ text. word ++ SP ∷ text) (sym (same_Some _ _ is) ∙ sym (escaped-decimal number))
 
--- the upper case of no bytes
-pub nothing_left : (rest : Bytes) → length rest ≡ 0 → upper rest ≡ []
-nothing_left [] none = refl
-nothing_left (b ∷ rest) none = absurd (omega (arith, none))
-
 -- a word, and a text after it
 pub spaced_line : (sent word text : Bytes) → (((sent ++ word) ++ SP ∷ []) ++ text) ++ crlf
     ≡ sent ++ ((word ++ SP ∷ text) ++ crlf)
@@ -81,72 +74,68 @@ pub some_parameter : (sent verb parameter : Bytes) → 0 < length parameter
 some_parameter sent verb [] some = absurd (omega (arith, some))
 some_parameter sent verb (b ∷ parameter) some = spaced_line sent verb (b ∷ parameter)
 
-Lacks-front : (text more : Bytes) → Lacks LF (text ++ more) → Lacks LF text
-Lacks-front [] more h = tt
-Lacks-front (b ∷ text) more h = (h.0, Lacks-front text more h.1)
+-- what is written for a line that says this is the line that is forwarded
+module _ (line text : Bytes) (parts : Said) (says : IsSaid (outcome line) parts) (is_line : IsLine line)
+    (text_is : text ≡ before_end line) where
+  sent : IsForwarded line [] (sent_line text parts)
+  sent = all_forwarded line text parts says is_line text_is
+      {T = Bytes} {E = Bytes} (Ok []) [] (sent_line text parts) refl
 
--- a line's text is what comes before its end
-module _ (line : Bytes) (is_line : IsLine line) where
-  text_before_crlf : has_end line crlf ≡ true
-      → take (length line - 2) line ≡ before_end line
-  text_before_crlf ends =
-      let front = take (length line - 2) line in
-      let whole : line ≡ front ++ crlf = sym (take-append-drop (length line - 2) line)
-      ∙ ap (λ end. front ++ end)
-      (sym ((bytes_decides crlf (drop (length line - 2) line)).0 ends)) in
-      let body : is_line.body ≡ front ++ CR ∷ [] =
-      append_cancel_right is_line.body (front ++ CR ∷ []) (LF ∷ [])
-      (sym is_line.whole ∙ whole ∙ sym (append_assoc front (CR ∷ []) (LF ∷ []))) in
-      sym (ap before_end whole ∙ before_end-crlf front []
-      (Lacks-front front (CR ∷ []) (subst (Lacks LF) body is_line.one_end)))
+  sent_for : (forwarded : Forwarded) → IsWritable forwarded
+      → forwarded_text forwarded ≡ sent_line text parts → IsSentFor line forwarded
+  sent_for forwarded writable is =
+      let all = is ∙ sent.appended in
+      record {
+        writable = writable;
+        is = (sent.command, sent.means, all);
+        one_line = subst IsLine (sym all) sent.is_line;
+        read_back = ap outcome all ∙ sent.read_back ∙ sym sent.means;
+      }
 
-  text_before_lf : has_end line crlf ≡ false
-      → take (length line - 1) line ≡ before_end line
-  text_before_lf other =
-      let long : length line - 1 ≡ length is_line.body = omega (
-        arith,
-        ap length is_line.whole,
-        length-append is_line.body (LF ∷ []),
-      ) in
-      let text : take (length line - 1) line ≡ is_line.body =
-      (λ i. take (long i) (is_line.whole i)) ∙ take-append_seam is_line.body (LF ∷ []) in
-      text ∙ sym (ap before_end is_line.whole
-      ∙ before_end-lf is_line.body is_line.one_end
-      (λ front e. false≢true (sym other ∙ ends front (is_line.whole
-      ∙ ap (λ body. body ++ LF ∷ []) e ∙ append_assoc front (CR ∷ []) (LF ∷ [])))))
-    where
-      ends : (front : Bytes) → line ≡ front ++ crlf → has_end line crlf ≡ true
-      ends front whole =
-          let long : length line - 2 ≡ length front = omega (
-            arith,
-            ap length whole,
-            length-append front crlf,
-          ) in
-          (bytes_decides crlf (drop (length line - 2) line)).1
-          (sym ((λ i. drop (long i) (whole i)) ∙ drop-append_seam front crlf))
+pub kept_sent : (line : Bytes) (text : Bor Bytes) (verb : Verb) (name : Bytes) (value : Value)
+    → IsSaid (outcome line) (record { verb = verb; name = name; value = value })
+    → IsLine line → text.now ≡ before_end line → kind_keeps (kind verb) ≡ true
+    → IsSentFor line (Kept text)
+kept_sent line text verb name value says is_line text_is keeps = sent_for line text.now
+    (record { verb = verb; name = name; value = value }) says is_line text_is (Kept text) tt
+    (rw keeps refl)
 
-  pub text_is : line_text line ≡ before_end line
-  text_is = cond_both (has_end line crlf) 2 1
-      (λ end. take (length line - end) line ≡ before_end line) text_before_crlf text_before_lf
+pub typed_sent : (line text : Bytes) (parts : Parts) → IsSaid (outcome line) (said_of parts)
+    → IsLine line → text ≡ before_end line → kind_keeps (kind parts.verb) ≡ false
+    → HasNoText (said_value parts.value) → IsSentFor line (Typed parts.verb parts.value)
+typed_sent line text parts says is_line text_is other none = sent_for line text (said_of parts)
+    says is_line text_is (Typed parts.verb parts.value) none (rw other refl)
 
-  -- what is written is the line that is forwarded
-  module _ (parts : Parts) (says : IsSaid (outcome line) (said_of parts)) where
-    sent : IsForwarded line [] (sent_line (line_text line) parts.verb parts.value)
-    sent = all_forwarded line (line_text line) parts says is_line text_is
-        {T = Bytes} {E = Bytes} (Ok []) [] (sent_line (line_text line) parts.verb parts.value) refl
+-- a verb whose parameter isn't kept has no text
+no_text : (command : FtpCommand) → kind_keeps (kind (said command).verb) ≡ false
+    → HasNoText (said command).value
+no_text command other = search rules
 
-    pub sent_is : IsForwardedLine line (Ok (sent_line (line_text line) parts.verb parts.value))
-    sent_is = (sent.command, sent.means, sent.appended)
+pub typed_value : (answer : Outcome) (parts : Parts) → IsSaid answer (said_of parts)
+    → kind_keeps (kind parts.verb) ≡ false → HasNoText (said_value parts.value)
+typed_value (Ok command) parts says other = subst (λ parts. HasNoText parts.value) says.1
+    (no_text command (ap (λ parts. kind_keeps (kind parts.verb)) says.1 ∙ other))
+typed_value (Err refusal) parts says other = absurd says.1
 
-    pub one_line : IsLine (sent_line (line_text line) parts.verb parts.value)
-    one_line = subst IsLine (sym sent.appended) sent.is_line
+pub refused : (line : Bytes) (why : ParseErrorKind) → IsLine line → IsRefusal (outcome line) why
+    → ForwardsTo line (Err (kind_status why))
+refused line kind_of.InvalidCommand is h = (is, (InvalidCommand, h, refl))
+refused line kind_of.InvalidUtf8 is h = (is, (InvalidUtf8, h, refl))
+refused line kind_of.InvalidEol is h = (is, (InvalidEol, h, refl))
+refused line kind_of.OutOfMemory is h = absurd h
 
-    pub read_back : outcome (sent_line (line_text line) parts.verb parts.value) ≡ outcome line
-    read_back = ap outcome sent.appended ∙ sent.read_back ∙ sym sent.means
+-- why nothing is sent
+pub why_not : (line : Bytes) (status : Status) → ForwardsTo line (Err status)
+    → IsForwardedLine line (Err status)
+why_not line NoLine not_sent = not_sent
+why_not line status not_sent = not_sent.1
 
-pub refused : (line : Bytes) (why : ParseErrorKind) → IsRefusal (outcome line) why
-    → IsForwardedLine line (Err (kind_status why))
-refused line kind.InvalidCommand h = (InvalidCommand, h, refl)
-refused line kind.InvalidUtf8 h = (InvalidUtf8, h, refl)
-refused line kind.InvalidEol h = (InvalidEol, h, refl)
-refused line kind.OutOfMemory h = absurd h
+pub no_line : (line : Bytes) (status : Status) → ForwardsTo line (Err status) → ¬ IsLine line
+    → status_number status ≡ status_number NoLine
+no_line line NoLine not_sent none = refl
+no_line line status not_sent none = absurd (none not_sent.0)
+
+pub some_line : (line : Bytes) (status : Status) → ForwardsTo line (Err status) → IsLine line
+    → status_number status ≢ status_number NoLine
+some_line line NoLine not_sent is = absurd (not_sent is)
+some_line line status not_sent is = λ e. absurd (omega (arith, e))

@@ -1,11 +1,11 @@
 -- Where the name and the value of a line are found.
-use Rattle.std.proofs.Common.{◌≡◌, ℕ, Bool, true, false, ◌+◌, ◌-◌, ◌==◌, ◌<◌, [], ◌∷◌, ◌++◌, length, take, drop, refl, sym, ap, subst, ◌∙◌, arith, append_assoc, length-append}
+use Rattle.std.proofs.Common.{◌≡◌, ℕ, Bool, true, false, ◌+◌, ◌-◌, ◌<◌, [], ◌∷◌, ◌++◌, length, take, drop, refl, sym, ap, subst, ◌∙◌, arith, append_assoc, length-append}
 use Rattle.std.specs.Prelude.{if◌then◌else◌, nat_lt}
 use Rattle.std.proofs.lemmas.Bool.{cond_both, ltb-true}
 use Rattle.std.proofs.Math.Seq.{drop-append_seam, take-append_seam}
 use Rattle.std.proofs.lemmas.List.{drop-take, length-take-le, take-take}
 use lib.Pointwise.{bytes_decides}
-use Rattle.unftp_control_codecs.specs.WordsMeaning.{EndsWith}
+use Rattle.unftp_control_codecs.specs.WordsMeaning.{EndsAfterByte}
 use Rattle.unftp_control_commands.specs.Areas.{overwritten}
 use Rattle.unftp_control_defs.specs.Bytes.{Bytes, crlf}
 use Rattle.unftp_control_c.specs.Next.{Call, Given, given_left, has_end, line_text, name_in, value_place, value_in}
@@ -43,7 +43,7 @@ module _ (bytes line : Bytes) (front : take (length line) bytes ≡ line) where
       (end_found (b ∷ value)) (λ _ some. absurd (omega (arith, some)))
 
 -- a value right before a CR LF, after another byte, is in place
-module _ (line value : Bytes) (some : 0 < length value) (end : EndsWith line (value ++ crlf)) where
+module _ (line value : Bytes) (some : 0 < length value) (end : EndsAfterByte line (value ++ crlf)) where
   abbrev front : Bytes
   front = end.0
 

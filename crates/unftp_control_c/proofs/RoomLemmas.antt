@@ -1,5 +1,5 @@
 -- How much room the name and the value of a line's command need.
-use Rattle.std.proofs.Common.{◌≡◌, ℕ, ◌+◌, ◌*◌, ◌^◌, ◌<◌, ◌≤◌, Bool, true, false, cond, ◌==◌, ◌&&◌, nat_lt, List, [], ◌∷◌, ◌++◌, length, length-drop, length-append, Option, Some, None, unwrap_or, Ok, Err, bytes_eq, codes, decimal, refl, sym, ap, subst, arith, rules}
+use Rattle.std.proofs.Common.{◌≡◌, ℕ, ◌+◌, ◌*◌, ◌^◌, ◌<◌, ◌≤◌, Bool, true, false, cond, ◌==◌, ◌&&◌, nat_lt, List, [], ◌∷◌, ◌++◌, length, length-drop, length-append, Option, Some, None, unwrap_or, Ok, Err, bytes_eq, codes, decimal, refl, ap, arith, rules}
 use Rattle.std.specs.Prelude.{if◌then◌else◌}
 use Rattle.std.specs.Char.{to_ascii_uppercase}
 use Rattle.std.specs.List.{AllByRecursion, position_or_len, slice_index}
@@ -14,11 +14,11 @@ use lib.Pointwise.{bytes_decides}
 use Rattle.unftp_control_defs.specs.Bytes.{Bytes, SP}
 use Rattle.unftp_control_defs.specs.ComputedValue.{value_of}
 use Rattle.unftp_control_defs.specs.Events.{FtpEvent, Command, event_of}
-use Rattle.unftp_control_defs.specs.FtpCommand.{FtpCommand, Rest, Outcome, InvalidCommand, InvalidUtf8, Nothing, Text, Value, command_by, kind, maybe_raw, maybe_text, unless_empty, verbs, word, Said}
+use Rattle.unftp_control_defs.specs.FtpCommand.{FtpCommand, Rest, Outcome, InvalidCommand, InvalidUtf8, Nothing, Text, Value, command_by, kind, maybe_raw, maybe_text, unless_empty, verbs, Said}
 use Rattle.unftp_control_defs.specs.Outcome.{outcome, parameter_outcome, site_outcome, value_outcome, word_outcome}
 use Rattle.unftp_control_defs.specs.Paths.{path_of}
 use Rattle.unftp_control_defs.specs.Rules.{auth, buffer_sizes, chosen, mechanisms, modes, offset, optional_text, options, protections, row_of, structures, subcommand_outcome, taken, typed_outcome}
-use Rattle.unftp_control_defs.specs.Said.{KindSaysBack, SaysBack, MeansCommand, name_on_line, value_bytes}
+use Rattle.unftp_control_defs.specs.Said.{KindSaysBack, SaysBack, MeansCommand, value_bytes}
 use Rattle.unftp_control_defs.specs.Values.{ReadsLater, ends_crlf, ends_lf, cr_nul, byte, Reads, nothing, ended, ended_crlf, one_byte, first_cr_nul, first_byte}
 use Rattle.unftp_control_defs.specs.Verbs.{verb_of, parameter_of, upper, is_separator}
 use Rattle.unftp_control_defs.specs.declared.verb.Kind.{Kind}
@@ -27,7 +27,6 @@ use Rattle.unftp_control_defs.specs.declared.verb.Verb.{Verb}
 use Rattle.unftp_control_defs.specs.declared.verb.Verb.TheVariants as verb
 use Rattle.unftp_control_defs.proofs.LossyLemmas.{length-utf8_lossy}
 use Rattle.unftp_control_defs.proofs.PathLemmas.{path_of-keeps}
-use Rattle.unftp_control_defs.proofs.RuleLemmas.{found}
 use Rattle.unftp_control_defs.proofs.SaidLemmas.{fits, other_fits, site_fits}
 use Rattle.unftp_control_defs.proofs.ValueLemmas.{Reads-value_of}
 use Rattle.unftp_control_codecs.proofs.TextLemmas.{optional_says}

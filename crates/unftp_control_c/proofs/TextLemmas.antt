@@ -1,5 +1,5 @@
 -- What is given of a command is UTF-8.
-use Rattle.std.proofs.Common.{◌≡◌, ℕ, ◌<◌, ◌&&◌, ◌==◌, Bool, true, false, cond, nat_lt, List, [], ◌∷◌, length, Option, Some, None, unwrap_or, Ok, Err, bytes_eq, codes, ◌^◌, refl, sym, ap, subst, ◌∙◌, decimal}
+use Rattle.std.proofs.Common.{◌≡◌, ℕ, ◌&&◌, ◌==◌, Bool, true, false, cond, nat_lt, List, [], ◌∷◌, length, Option, Some, None, unwrap_or, Ok, Err, bytes_eq, codes, ◌^◌, refl, sym, subst, ◌∙◌, decimal}
 use Rattle.std.specs.Prelude.{⊤}
 use Rattle.std.specs.List.{AllByRecursion}
 use Rattle.std.specs.Str.{IsUtf8, chars, is_utf8, all_ascii_digits}
@@ -10,7 +10,7 @@ use Rattle.std.proofs.lemmas.Fmt.{IsAscii-decimal}
 use Rattle.std.proofs.lemmas.Str.{IsUtf8-from_ascii, IsUtf8-from_is_utf8, IsUtf8-nil}
 use Rattle.unftp_control_defs.specs.Bytes.{Bytes}
 use Rattle.unftp_control_defs.specs.ComputedValue.{value_of}
-use Rattle.unftp_control_defs.specs.FtpCommand.{FtpCommand, Auth, Mode, Opts, Pbsz, Prot, Rest, Stru, Outcome, InvalidCommand, InvalidUtf8, Nothing, Text, Value, command_by, kind, maybe_raw, maybe_text, number, said, unless_empty, verbs, Said}
+use Rattle.unftp_control_defs.specs.FtpCommand.{FtpCommand, Rest, Outcome, InvalidCommand, InvalidUtf8, Nothing, Text, Value, command_by, kind, maybe_raw, maybe_text, number, said, unless_empty, verbs, Said}
 use Rattle.unftp_control_defs.specs.Outcome.{outcome, parameter_outcome, site_outcome, value_outcome, word_outcome}
 use Rattle.unftp_control_defs.specs.Paths.{path_of}
 use Rattle.unftp_control_defs.specs.Rules.{auth, buffer_sizes, chosen, mechanisms, modes, offset, optional_text, options, protections, row_of, structures, subcommand_outcome, taken, typed_outcome}

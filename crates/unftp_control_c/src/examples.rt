@@ -7,7 +7,9 @@ ghost use Rattle.unftp_control_defs.specs.FtpReply.{CodeAndMsg, MultiLine};
 ghost use Rattle.unftp_control_defs.specs.declared.verb.Verb.TheVariants as verb;
 ghost use Rattle.unftp_control_commands.specs.Areas.{HasText};
 ghost use Rattle.unftp_control_c.specs.CanonicalLines.{CanonicalMayTakeMemory, IsCanonical};
-ghost use Rattle.unftp_control_c.specs.ForwardedLines.{IsForwardedLine};
+ghost use Rattle.unftp_control_c.specs.ForwardedLines.{ForwardsTo, IsForwardedLine, IsWritable, forwarded_text};
+ghost use Rattle.unftp_control_c.specs.declared.forwarding.Forwarded.TheVariants.{Typed};
+ghost use Rattle.unftp_control_message.specs.declared.parts.Value.TheVariants as read;
 ghost use Rattle.unftp_control_c.specs.Next.{AreTexts, HasTexts, Leaves, LineMayTakeMemory, next_of, scans, value_place};
 ghost use Rattle.unftp_control_c.specs.Rows.{a_call, leaving};
 ghost use Rattle.unftp_control_c.specs.Replies.{IsFoundText, found_text, reply_bytes, text_lines, text_reply};
@@ -150,6 +152,10 @@ pub fn lines_are_forwarded()
     ensures no_line_feed { IsForwardedLine (codes "TYPE A") (Err NoLine) }
     ensures refusal { IsForwardedLine (codes "NOOP x\r\n") (Err InvalidCommand) }
     ensures memory { ¬ IsForwardedLine (codes "NOOP\n") (Err OutOfMemory) }
+    ensures not_sent { ForwardsTo (codes "TYPE A") (Err NoLine) }
+    ensures refused { ¬ ForwardsTo (codes "TYPE A") (Err InvalidCommand) }
+    ensures level { IsWritable (Typed verb.Prot read.None) }
+    ensures no_value { forwarded_text (Typed verb.Pasv read.None) ≡ codes "PASV\r\n" }
 {}
 
 /// Lines for whose canonical lines memory may run out, and none.

@@ -65,8 +65,8 @@ fn is_printable(byte: u8) -> bool
     matches!(byte, b' '..=b'~')
 }
 
-/// Why there is no line where memory ran out before all replies were read: that of a reply at fault,
-/// if there is one. No memory is taken.
+/// Why there is no line where memory ran out before all replies were read: that of a reply at
+/// fault, if there is one. No memory is taken.
 fn fault_of(bytes: &[u8]) -> Status
     ensures { IsNotRead bytes.now result }
 {

@@ -16,14 +16,14 @@ ghost use Rattle.unftp_control_client.specs.ForwardingSteps.{Answered, AreForwar
 ghost use Rattle.unftp_control_client.specs.Steps.{AreDialogueSteps, AreExchanges, ClientStep, EndsInAgreement, ReplyTo, SentLine, Took, replies_owed};
 ghost use Rattle.unftp_control_client.specs.declared.dialogue.To.TheVariants.{Greeting, Nothing};
 ghost use Rattle.unftp_control_log.specs.Known.{known};
-ghost use Rattle.unftp_control_log.specs.LogLine.{IsPrintable, logged};
+ghost use Rattle.unftp_control_log.specs.LogLine.{IsPrintable, hides_part, logged};
 ghost use Rattle.unftp_control_login.specs.Gate.{decided, stage_after};
 ghost use Rattle.unftp_control_login.specs.Login.{Accounts, IsLoggedIn, is_login, needs_login};
 ghost use Rattle.unftp_control_c.specs.Addresses.{IsWrittenBy, form_for};
 ghost use Rattle.unftp_control_c.specs.Areas.{Made, filled, written};
 ghost use Rattle.unftp_control_c.specs.Clients.{dialogue_of, may_begin_tls, new_client, place_in, to_number};
 ghost use Rattle.unftp_control_c.specs.ExchangeLines.{IsExchangeLine};
-ghost use Rattle.unftp_control_c.specs.LogLines.{IsLogLine, numbered_log_line};
+ghost use Rattle.unftp_control_c.specs.LogLines.{IsLogLine, numbered_hides, numbered_log_line};
 ghost use Rattle.unftp_control_c.specs.Logins.{Kept, decision_at, kept_after, kept_after_all, login_step, nobody, progress_of, stage_number, stage_of};
 ghost use Rattle.unftp_control_c.specs.Next.{Call, Given, Leaves, Left, given_for, line_limit, needed_room, scans};
 ghost use Rattle.unftp_control_c.specs.Numbers.{status_number};
@@ -157,6 +157,9 @@ pub fn log_lines_are_logged()
     // The number that `unftp_next` returns for a line gives the line's own.
     ensures same { (limit : Option ℕ) (line : Bytes) → IsLine line
         → numbered_log_line (given_for (event_for limit line)).number line ≡ logged limit line }
+    ensures hides { (limit : Option ℕ) (line : Bytes) → IsLine line
+        → numbered_hides (given_for (event_for limit line)).number line
+        ≡ hides_part limit line }
     // Of a line that is too long it is the same, whatever is left of the line.
     ensures too_long { (line other : Bytes)
         → numbered_log_line (status_number LineTooLong) line
@@ -167,8 +170,8 @@ pub fn log_lines_are_logged()
         → numbered_log_line number line ≡ numbered_log_line number other }
 {}
 
-/// The line of an exchange is printable, whatever a client or a server sent: so no line of a log can
-/// be forged.
+/// The line of an exchange is printable, whatever a client or a server sent: so no line of a log
+/// can be forged.
 pub fn lines_of_exchanges_are_printable()
     ensures { (shown replies text : Bytes) → IsExchangeLine shown replies (Ok text)
         → AllByRecursion IsPrintable text }

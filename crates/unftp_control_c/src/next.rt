@@ -1,6 +1,6 @@
 //! The next event of the pending bytes.
 ghost use Rattle.std.specs.Prelude.{◌≡◌, ◌<◌, ◌≤◌, ◌+◌, ◌++◌, [], IsTrue, true, false, length};
-ghost use Rattle.unftp_control_codecs.specs.WordsMeaning.{EndsWith};
+ghost use Rattle.unftp_control_codecs.specs.WordsMeaning.{EndsAfterByte};
 ghost use Rattle.unftp_control_defs.specs.Bytes.{Bytes, crlf};
 ghost use Rattle.unftp_control_defs.specs.FtpCommand.{Nothing, Outcome, number};
 ghost use Rattle.unftp_control_defs.specs.Said.{IsSaid};
@@ -17,7 +17,6 @@ use unftp_control_codecs::{FirstLine, FtpCodec};
 use unftp_control_commands::pieces::overwrite;
 use unftp_control_message::Command;
 use unftp_control_message::parts::{Parts, Value, Verb};
-use unftp_control_message::utf8::LONG;
 
 /// What a caller keeps of a connection: `struct unftp_connection` of include/unftp_control.h.
 #[repr(C)]
@@ -147,18 +146,12 @@ fn take_line(
     ensures { (pending : Bytes) → LeavesLine (call_with connection.old pending area.old) bytes.now
         (left_with result connection.new area.new line.new) }
 {
-    let words = match Words::of(bytes) {
-        Ok(words) => words,
-        Err(kind) => return report(kind_status(&kind), bytes.len(), codec, connection, line),
-    };
+    let words = Words::of(bytes);
     if let Some(verb) = words.lone_verb() {
         return give_verb(verb, bytes, connection, line);
     }
-    // `parts` tests a longer text by blocks
-    if bytes.len() < LONG {
-        if let Some(value) = words.usual_value() {
-            return give_value(words.verb(), value, bytes, connection, line);
-        }
+    if let Some(value) = words.usual_value() {
+        return give_value(words.verb(), value, bytes, connection, line);
     }
     match words.parts() {
         Ok(parts) => give_command(alloc, parts, bytes, connection, area, line),
@@ -208,7 +201,7 @@ fn give_value(
     line: &mut Line,
 ) -> u32
     requires some { 0 < length value.now }
-    requires end { EndsWith bytes.now (value.now ++ crlf) }
+    requires end { EndsAfterByte bytes.now (value.now ++ crlf) }
     ensures { (pending area : Bytes) → left_with result connection.new area line.new
         ≡ gives (call_with connection.old pending area) bytes.now
         (record { number = number verb; name = []; value = value.now }) }

@@ -41,8 +41,8 @@ pub extern "C" fn unftp_reply(code: u32, text: &[u8], out: &mut [u8], len: &mut 
     write_lines(code, text, out, len)
 }
 
-/// Whether an area of so many bytes has room for the reply of any lines of so long a text: a byte of
-/// the text takes three at most, and the two codes take ten with what is around them.
+/// Whether an area of so many bytes has room for the reply of any lines of so long a text: a byte
+/// of the text takes three at most, and the two codes take ten with what is around them.
 fn surely_fit(text_len: usize, area_len: usize) -> bool
     ensures { IsTrue result ↔ (3 * text_len + 10 ≤ area_len) }
 {

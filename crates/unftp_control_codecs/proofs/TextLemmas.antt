@@ -13,7 +13,7 @@ use Rattle.unftp_control_message.proofs.SentLemmas.{some_lossy}
 use Rattle.unftp_control_codecs.proofs.LossyPathLemmas.{path_of-utf8_lossy}
 
 -- what is read of a text
-text_of : (v : Bytes) → optional_text v ≡ maybe_text (unless_empty (utf8_lossy v))
+pub text_of : (v : Bytes) → optional_text v ≡ maybe_text (unless_empty (utf8_lossy v))
 text_of v = ap maybe_text (by_bytes v)
   where
     by_text : (t : Bytes) → 0 < length t → Some t ≡ unless_empty t

@@ -62,8 +62,8 @@ after_found (Incomplete n) = n
 after_found (TooLong n) = n
 after_found (Complete n) = n
 
--- How many of the bytes there it has compared: all that are left, where no line is complete; after a
--- line, fewer than a block.
+-- How many of the bytes there it has compared: all that are left, where no line is complete; after
+-- a line, fewer than a block.
 abbrev pub ComparedAfter : FirstLine → Bytes → ℕ → Type 0
 ComparedAfter (Incomplete n) bytes compared = compared ≡ length bytes - n
 ComparedAfter (TooLong n) bytes compared = compared ≤ 31

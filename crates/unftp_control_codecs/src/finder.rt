@@ -10,9 +10,9 @@ use std::marker::Model;
 use unftp_control_defs::count::Count;
 
 /// Finds lines as `FtpCodec` does, and compares each byte with a line feed once, though many at a
-/// time: it keeps what it has seen of the bytes after a line. Between its calls the line that it has
-/// found, or what it drops, has to leave the bytes at their start; beside that they may only grow at
-/// their end.
+/// time: it keeps what it has seen of the bytes after a line. Between its calls the line that it
+/// has found, or what it drops, has to leave the bytes at their start; beside that they may only
+/// grow at their end.
 #[derive(Drop)]
 pub struct LineFinder {
     compared: usize,
@@ -58,8 +58,8 @@ impl LineFinder {
         self.tests.count()
     }
 
-    /// Finds the first line of `bytes`, and goes on after it: the next call gets the bytes after the
-    /// line, or after those that are dropped. No memory is taken.
+    /// Finds the first line of `bytes`, and goes on after it: the next call gets the bytes after
+    /// the line, or after those that are dropped. No memory is taken.
     #[inline(always)]
     pub fn find_line(&mut self, bytes: &[u8]) -> FirstLine
         requires { HasCompared self.old bytes.now }

@@ -1,5 +1,5 @@
-//! Reads what a line says, takes lines from the start of a buffer, and appends replies to the end of
-//! one.
+//! Reads what a line says, takes lines from the start of a buffer, and appends replies to the end
+//! of one.
 #![tactic(auto)]
 
 ghost use Rattle.std.specs.Prelude.{◌≡◌, ◌||◌, ◌+◌, ◌-◌, ◌≤◌, if◌then◌else◌, false, None, IsTrue, ⊤, ◌++◌, length, drop, vec_len, Some, Ok, Err, MatchOption, IsOk, OnOk, OnErr, IfErr};
@@ -150,8 +150,8 @@ impl FtpCodec {
         self.place
     }
 
-    /// How many bytes were compared with a line feed: those up to each that was found, and all where
-    /// none was. Only contracts see it.
+    /// How many bytes were compared with a line feed: those up to each that was found, and all
+    /// where none was. Only contracts see it.
     pub fn tests(&self) -> Count
         ensures { result ≡ self.now.tests }
     {
@@ -290,8 +290,8 @@ impl FtpCodec {
     /// Appends the bytes of the reply to `buf` and changes no earlier byte (RFC 959, section 4.2);
     /// `Reply::None` has none. It is `encode_reply`, and the reply is dropped.
     ///
-    /// It fails only when out of memory, with the kind `OutOfMemory`: where `buf` lacks room for the
-    /// reply and can't grow. `buf` is then as it was.
+    /// It fails only when out of memory, with the kind `OutOfMemory`: where `buf` lacks room for
+    /// the reply and can't grow. `buf` is then as it was.
     pub fn encode(&mut self, reply: Reply, buf: &mut Vec<u8>) -> Result<(), ControlChanError>
         ensures ok { OnOk result (buf.new.items ≡ buf.old.items ++ encoded (reply_of reply)) }
         ensures err { OnErr result (buf.new.items ≡ buf.old.items) }

@@ -57,8 +57,8 @@ impl ScanCount {
     }
 }
 
-/// Bytes that were compared at once: where they begin, how many they are, and a bit for each, 1 where
-/// it is a line feed, the lowest for the first.
+/// Bytes that were compared at once: where they begin, how many they are, and a bit for each, 1
+/// where it is a line feed, the lowest for the first.
 #[derive(Clone, Copy)]
 pub(crate) struct Block {
     pub(crate) start: usize,

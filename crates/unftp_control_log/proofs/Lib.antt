@@ -2,6 +2,7 @@ pub mod ShownTextLemmas
 pub mod UnescapedLemmas
 pub mod PrintableLemmas
 pub mod PartsLemmas
+pub mod WordsLemmas
 pub mod HiddenLemmas
 pub mod CutLemmas
 pub mod SentLemmas

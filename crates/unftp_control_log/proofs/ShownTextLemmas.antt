@@ -2,9 +2,10 @@
 use Rattle.std.proofs.Common.{◌≡◌, ℕ, [], ◌∷◌, ◌++◌, length, take, None, Some, sym, refl, ap, append_assoc, append-nil, ◌∙◌, inl, inr}
 use Rattle.std.specs.Char.Iter.{escape_byte_left, escape_byte_rest}
 use Rattle.std.specs.declared.slice.EscapeAscii.{EscapeAscii}
+use Rattle.std.specs.List.{AllByRecursion}
 use Rattle.std.specs.Slice.Iter.{escape_ascii_current, escape_ascii_rest, escape_ascii_steps}
 use Rattle.unftp_control_defs.specs.Bytes.{Bytes}
-use Rattle.unftp_control_log.specs.LogLine.{shown}
+use Rattle.unftp_control_log.specs.LogLine.{IsShownPlain, shown}
 
 -- what is still to come
 abbrev pub left : EscapeAscii → Bytes
@@ -30,6 +31,12 @@ left-step s t x (inr step) =
 
 left-end : (s t : EscapeAscii) → escape_ascii_steps s None t → left s ≡ []
 left-end s t step = nothing_left s step.0 ∙ ap shown (none _ step.1)
+
+-- a text of bytes that are shown as they are is
+pub shown_plain : (text : Bytes) → AllByRecursion IsShownPlain text → shown text ≡ text
+shown_plain [] all = refl
+shown_plain (b ∷ text) all = ap (λ front. front ++ shown text) all.0
+    ∙ ap (λ later. b ∷ later) (shown_plain text all.1)
 
 -- at first all of it is
 pub left-start : (s : EscapeAscii) (text : Bytes) → escape_ascii_rest s ≡ text

@@ -1,6 +1,6 @@
 -- What a log shows of an event and its line: printable text in one line, and nothing of a password
 -- or an account, also where it is typed as a line of its own.
-use Rattle.std.specs.Prelude.{ℕ, ◌≤◌, Bool, true, false, ◌||◌, is_some, unwrap_or, if◌then◌else◌, List, [], ◌∷◌, ◌++◌, Option, Some, None, option_and_then, option_map, bytes_eq, codes, decimal}
+use Rattle.std.specs.Prelude.{◌≡◌, ℕ, ◌≤◌, ◌==◌, Bool, true, false, not, ◌&&◌, ◌||◌, is_some, unwrap_or, if◌then◌else◌, List, [], ◌∷◌, ◌++◌, length, Option, Some, None, option_and_then, option_map, bytes_eq, codes, decimal}
 use Rattle.std.specs.Char.Escape.{escape_ascii}
 use Rattle.std.specs.List.{flat_map, list_any}
 use Rattle.unftp_control_defs.specs.Bytes.{Bytes}
@@ -25,6 +25,10 @@ IsPrintable b = (32 ≤ b) × (b ≤ 126)
 -- `\x` and two hexadecimal digits.
 abbrev pub shown : Bytes → Bytes
 shown text = flat_map escape_ascii text
+
+-- a byte that is shown as it is
+abbrev pub IsShownPlain : ℕ → Type 0
+IsShownPlain b = escape_ascii b ≡ b ∷ []
 
 -- the text that is shown for what is hidden
 abbrev pub asterisks : Bytes
@@ -84,10 +88,16 @@ parameter_by (Some verb) parameter = if hides_parameter verb then None else Some
 abbrev pub shown_parameter : Bytes → Option Bytes
 shown_parameter line = parameter_by (row_of (upper (verb_of line)) verbs) (parameter_of line)
 
--- Its value, as the bytes that were sent (RFC 854): none where it is empty, or after an invalid line
--- ending, which TYPE, EPSV and ALLO ignore.
+-- Its value, as the bytes that were sent (RFC 854): none where it is empty, or after an invalid
+-- line ending, which TYPE, EPSV and ALLO ignore.
 abbrev pub shown_value : Bytes → Option Bytes
 shown_value line = option_and_then unless_empty (option_and_then value_of (shown_parameter line))
+
+-- so of the words that a line begins with (RFC 959, section 5.3)
+abbrev pub shows_after : Ruled → Bytes → Bool
+shows_after verbs_of.Other name = false
+shows_after verbs_of.Site name = unwrap_or (shows_arguments name) false
+shows_after verb name = not (hides_parameter verb)
 
 -- ---- of an event
 
@@ -109,8 +119,8 @@ visible_site (Some true) name arguments = Subcommand name arguments
 visible_site (Some false) name arguments = Subcommand name (Some asterisks)
 visible_site None name arguments = Subcommand asterisks None
 
--- Of a password and an account nothing, not even whether it is empty; nor of the arguments of a verb
--- with no rule of its own.
+-- Of a password and an account nothing, not even whether it is empty; nor of the arguments of a
+-- verb with no rule of its own.
 abbrev pub visible_verb : Ruled → Bytes → Option Bytes → Visible
 visible_verb verbs_of.Pass name value = Verb (codes "PASS") (Some asterisks)
 visible_verb verbs_of.Acct name value = Verb (codes "ACCT") (Some asterisks)
@@ -145,6 +155,33 @@ abbrev pub visible : FtpEvent → Bytes → Visible
 visible (Command command) line = visible_said (said command) (shown_value line)
 visible (Refused fault) line = RefusedLine (listed_verb line) (reason fault.source fault.kind)
 
+-- ---- what is not shown
+
+abbrev pub is_empty_value : Option Bytes → Bool
+is_empty_value None = false
+is_empty_value (Some v) = length v == 0
+
+-- A part of a command's line is not shown: a secret, a verb that is not listed, or arguments that
+-- are hidden, also where there are none; a text that SYST and HELP ignore; or a parameter with an
+-- invalid line ending, which TYPE, EPSV and ALLO ignore.
+abbrev pub hides_by : Option Ruled → Bytes → Bool
+hides_by (Some verbs_of.Syst) line = not (is_empty_value (value_of (parameter_of line)))
+hides_by (Some verbs_of.Help) line = not (is_empty_value (value_of (parameter_of line)))
+hides_by row line = not (is_some (option_and_then value_of (shown_parameter line)))
+
+-- so of the words that a line begins with, and the value of their parameter
+abbrev pub hides_after : Ruled → Bytes → Option Bytes → Bool
+hides_after verbs_of.Syst name value = not (is_empty_value value)
+hides_after verbs_of.Help name value = not (is_empty_value value)
+hides_after verb name value = not (shows_after verb name && is_some value)
+
+-- Of a refused line nothing of the parameter is shown.
+abbrev pub hides : FtpEvent → Bytes → Bool
+hides (Command command) line = hides_by (row_of (upper (verb_of line)) verbs) line
+hides (Refused fault) line = true
+
+-- ---- the text
+
 abbrev pub visible_text : Visible → Bytes
 visible_text (Verb verb value) = verb ++ spaced_part (option_map shown value)
 visible_text (Subcommand name arguments) =
@@ -155,6 +192,9 @@ visible_text (RefusedLine verb reason) =
 abbrev pub log_line : FtpEvent → Bytes → Bytes
 log_line event line = visible_text (visible event line)
 
--- the log line of a line under a limit
+-- the log line of a line under a limit, and whether it hides a part of that
 abbrev pub logged : Option ℕ → Bytes → Bytes
 logged limit line = log_line (event_for limit line) (unless_too_long limit line)
+
+abbrev pub hides_part : Option ℕ → Bytes → Bool
+hides_part limit line = hides (event_for limit line) (unless_too_long limit line)

@@ -3,10 +3,9 @@ ghost use Rattle.std.specs.Prelude.{◌≡◌, Some, option_map};
 ghost use Rattle.unftp_control_defs.specs.Verbs.{upper};
 ghost use Rattle.unftp_control_message.specs.PartsMeaning.{said_value, spelled};
 ghost use Rattle.unftp_control_message.specs.SentValues.{sent_value};
-ghost use Rattle.unftp_control_log.specs.LogLine.{Verb as ShownVerb, asterisks, is_listed, shown_value, shows_arguments, visible_other, visible_said, visible_site, visible_value};
+ghost use Rattle.unftp_control_log.specs.LogLine.{Verb as ShownVerb, asterisks, is_listed, shows_arguments, visible_other, visible_said, visible_site, visible_value, visible_verb};
 ghost use Rattle.unftp_control_log.specs.Meaning.{meant};
 
-use crate::parameter::shown_value;
 use crate::visible::Visible;
 use crate::words::{is_listed, shows_arguments};
 use itoa::Buffer;
@@ -16,19 +15,26 @@ use unftp_control_message::sent::Sent;
 /// What a log shows in place of what it hides.
 const ASTERISKS: &[u8] = b"***";
 
-/// What a log shows of a command that says this, and of the value of its line; `digits` has room
-/// for those of a number. No memory is taken.
+/// What a log shows of a command that says this, and of the value that is shown of its line;
+/// `digits` has room for those of a number. No memory is taken.
 pub(crate) fn visible_parts<'a>(
     parts: &Parts<'a>,
-    line: &'a [u8],
+    sent: Option<Sent<'a>>,
     digits: &'a mut Buffer,
 ) -> Visible<'a>
-    ensures { meant result ≡ visible_said (spelled parts.now) (shown_value line.now) }
+    ensures { meant result
+        ≡ visible_said (spelled parts.now) (option_map sent_value sent.entry) }
 {
-    let value = visible_value(parts.value, shown_value(line), digits);
-    let word = parts.verb.word().as_bytes();
-    let name = parts.name.as_bytes();
-    match parts.verb {
+    let value = visible_value(parts.value, sent, digits);
+    visible_verb(parts.verb, parts.name.as_bytes(), value)
+}
+
+/// What a log shows of a verb with this name and value.
+pub(crate) fn visible_verb<'a>(verb: Verb, name: &'a [u8], value: Option<Sent<'a>>) -> Visible<'a>
+    ensures { meant result ≡ visible_verb verb name.now (option_map sent_value value.entry) }
+{
+    let word = verb.word().as_bytes();
+    match verb {
         Verb::Pass | Verb::Acct => hidden_value(word),
         Verb::Other => visible_other(name),
         Verb::Site => visible_site(name, value),

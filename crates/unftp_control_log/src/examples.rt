@@ -6,10 +6,10 @@ ghost use Rattle.unftp_control_defs.specs.Events.{Command, InvalidCommand as Inv
 ghost use Rattle.unftp_control_defs.specs.FtpCommand.{Chosen, Feat, InvalidCommand, InvalidEol, Md5, Noop, Number, Other, Pass, Site, Text, User, said};
 ghost use Rattle.unftp_control_defs.specs.declared.parameters.AuthParam.TheVariants.{Tls};
 ghost use Rattle.unftp_control_defs.specs.declared.parameters.Choice.TheVariants.{Mechanism};
-ghost use Rattle.unftp_control_defs.specs.declared.verb.Verb.TheVariants.{Acct as VerbAcct, Help, Retr as VerbRetr, TypeCode};
+ghost use Rattle.unftp_control_defs.specs.declared.verb.Verb.TheVariants.{Acct as VerbAcct, Help, Other as VerbOther, Rest, Retr as VerbRetr, TypeCode};
 ghost use Rattle.unftp_control_defs.specs.Texts.{kind_reason};
 ghost use Rattle.unftp_control_log.specs.Known.{fault_in, known, known_value, listed_subcommand, shows_parameter, subcommand_by};
-ghost use Rattle.unftp_control_log.specs.LogLine.{IsPrintable, RefusedLine, Subcommand, Verb, hides_parameter, is_listed, listed_verb, logged, parameter_by, reason, shown, shown_argument, shown_parameter, shown_value, shows_arguments, unless_too_long, visible, visible_said, visible_text, visible_value, visible_verb};
+ghost use Rattle.unftp_control_log.specs.LogLine.{IsPrintable, IsShownPlain, RefusedLine, Subcommand, Verb, hides_after, hides_parameter, hides_part, is_listed, listed_verb, logged, parameter_by, reason, shown, shown_argument, shown_parameter, shown_value, shows_after, shows_arguments, unless_too_long, visible, visible_said, visible_text, visible_value, visible_verb};
 ghost use Rattle.std.specs.declared.alloc.Global.{Global as RustGlobal};
 ghost use Rattle.unftp_control_defs.specs.Bytes.{Bytes};
 ghost use Rattle.unftp_control_read.specs.ReplyDecoding.{PendingReplies};
@@ -133,6 +133,28 @@ pub fn refusals_are_visible()
         ≡ RefusedLine (Some (codes "NOOP")) (codes "Invalid command") }
     ensures no_verb { visible (Refused (refusal_fault InvalidEol)) (codes "PASSx\ry\r\n")
         ≡ RefusedLine None (codes "Invalid end-of-line") }
+{}
+
+/// Lines of which a part is hidden, and others.
+pub fn parts_are_hidden()
+    ensures path { hides_part None (codes "RETR a***b\r\n") ≡ false }
+    ensures no_value { hides_part None (codes "NOOP\r\n") ≡ false }
+    ensures password { hides_part None (codes "PASS\r\n") ≡ true }
+    ensures unlisted { hides_part None (codes "secret\r\n") ≡ true }
+    ensures listed { hides_part None (codes "LANG\r\n") ≡ true }
+    ensures mode { hides_part None (codes "SITE CHMOD 644 a\r\n") ≡ false }
+    ensures passwords { hides_part None (codes "SITE PSWD a b\r\n") ≡ true }
+    ensures system { hides_part None (codes "SYST\r\n") ≡ false }
+    ensures text { hides_part None (codes "HELP me\r\n") ≡ true }
+    ensures line_end { hides_part None (codes "TYPE A\rx\r\n") ≡ true }
+    ensures refused { hides_part None (codes "NOOP x\r\n") ≡ true }
+    ensures too_long { hides_part (Some 5) (codes "NOOP\r\n") ≡ true }
+    ensures offset { hides_after Rest [] (Some (codes "+5")) ≡ false }
+    ensures no_offset { hides_after Rest [] None ≡ true }
+    ensures help { hides_after Help [] (Some []) ≡ false }
+    ensures other { shows_after VerbOther (codes "RETR") ≡ false }
+    ensures plain { IsShownPlain 126 }
+    ensures quoted { ¬ IsShownPlain 34 }
 {}
 
 /// Whole lines, from what a client sent.

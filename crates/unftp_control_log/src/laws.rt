@@ -1,13 +1,14 @@
 //! What holds of all log lines, and of all exchanges that a recorder returns, each the contract of
 //! a function that does nothing.
-ghost use Rattle.std.specs.Prelude.{◌≡◌, ℕ, Option, false, ◌≢◌, ◌<◌, ◌≤◌, ◌++◌, [], Err, IfSome, List, Result, Some, true};
+ghost use Rattle.std.specs.Prelude.{◌≡◌, ℕ, Option, false, ◌≢◌, ◌<◌, ◌≤◌, ◌++◌, [], Err, IfSome, List, None, Result, Some, true};
 ghost use Rattle.std.specs.List.{AllByRecursion};
 ghost use Rattle.unftp_control_defs.specs.Bytes.{Bytes};
 ghost use Rattle.unftp_control_defs.specs.Events.{Command, Fault, FaultSource, FtpEvent, Refused, UnknownCommand};
-ghost use Rattle.unftp_control_defs.specs.FtpCommand.{Acct, FtpCommand, Other, Pass};
-ghost use Rattle.unftp_control_defs.specs.Verbs.{verb_of};
+ghost use Rattle.unftp_control_defs.specs.FtpCommand.{Acct, FtpCommand, Other, Pass, unless_empty};
+ghost use Rattle.unftp_control_defs.specs.Verbs.{parameter_of, verb_of};
+ghost use Rattle.unftp_control_defs.specs.ComputedValue.{value_of};
 ghost use Rattle.unftp_control_log.specs.Known.{known, shows_parameter};
-ghost use Rattle.unftp_control_log.specs.LogLine.{IsPrintable, is_listed, log_line, logged};
+ghost use Rattle.unftp_control_log.specs.LogLine.{IsPrintable, hides_part, is_listed, log_line, logged, shown_parameter};
 ghost use Rattle.unftp_control_defs.specs.TakingSteps.{AreReplies};
 ghost use Rattle.unftp_control_defs.specs.Turns.{cut_reads};
 ghost use Rattle.unftp_control_log.specs.ExchangeLine.{exchange_line};
@@ -59,6 +60,18 @@ pub fn events_hide_secrets()
     ensures unknown { (source : FaultSource) (command other line : Bytes)
         → log_line (Refused (record { kind = UnknownCommand command; source = source })) line
         ≡ log_line (Refused (record { kind = UnknownCommand other; source = source })) line }
+{}
+
+/// A line of which no part is hidden is a command, and its log line has the value of its parameter.
+pub fn what_is_not_hidden_is_shown()
+    ensures command { (line : Bytes) → hides_part None line ≡ false
+        → (known None line).fault ≡ None }
+    ensures value { (line parameter : Bytes) → hides_part None line ≡ false
+        → shown_parameter line ≡ Some parameter → (v : Bytes) × (value_of parameter ≡ Some v)
+        × ((known None line).value ≡ unless_empty v) }
+    // Of SYST and HELP it is empty.
+    ensures none { (line : Bytes) → hides_part None line ≡ false → shown_parameter line ≡ None
+        → value_of (parameter_of line) ≡ Some [] }
 {}
 
 /// Nothing passes where no call is made, and what passes in one call after the other passes in all.

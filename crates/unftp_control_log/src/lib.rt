@@ -3,11 +3,12 @@
 //! the exchanges in what both sides send, in any pieces.
 #![tactic(auto)]
 
-ghost use Rattle.std.specs.Prelude.{◌≡◌, ◌++◌, OnErr, OnOk, None};
+ghost use Rattle.std.specs.Prelude.{◌≡◌, ◌++◌, IfOk, OnErr, OnOk, None};
 ghost use Rattle.unftp_control_defs.specs.Events.{event_of};
 ghost use Rattle.unftp_control_defs.specs.Outcome.{outcome};
 ghost use Rattle.unftp_control_defs.specs.Room.{LacksRoom};
-ghost use Rattle.unftp_control_log.specs.LogLine.{log_line, logged, visible};
+ghost use Rattle.unftp_control_codecs.specs.Memory.{IsRefusal};
+ghost use Rattle.unftp_control_log.specs.LogLine.{hides, hides_part, log_line, logged, visible};
 ghost use Rattle.unftp_control_log.specs.Meaning.{meant};
 ghost use Rattle.unftp_control_serve.specs.EventMeaning.{event_meant};
 
@@ -24,15 +25,17 @@ mod visible;
 mod words;
 mod write;
 
-use crate::command::visible_parts;
+use crate::command::{visible_parts, visible_verb};
+use crate::parameter::{hides_part, shown_value};
 pub use crate::recorder::{Exchange, Limits, Recorder};
 use crate::refusal::{reason, visible_refusal};
 use crate::text::append_visible;
-use crate::visible::Visible;
+use crate::visible::{Logged, Visible};
 pub use crate::write::write_exchange;
 use itoa::Buffer;
 use std::alloc::AllocError;
-use unftp_control_codecs::line_parser::parts;
+use unftp_control_codecs::line_parser::{ParseErrorKind, Words, parameter_value};
+use unftp_control_message::parts::Kind;
 use unftp_control_serve::Event;
 
 /// What a log shows of the event; `digits` has room for those of a number. No memory is taken.
@@ -40,18 +43,52 @@ fn visible_event<'a>(event: &'a Event, line: &'a [u8], digits: &'a mut Buffer) -
     ensures { meant result ≡ visible (event_meant event.now) line.now }
 {
     match event {
-        Event::Command(command) => visible_parts(&command.parts(), line, digits),
+        Event::Command(command) => {
+            let words = Words::of(line);
+            let sent = shown_value(words, parameter_value(words.parameter()));
+            visible_parts(&command.parts(), sent, digits)
+        }
         Event::Refused(error) => visible_refusal(reason(error), line),
     }
 }
 
-/// What a log shows of the event of a line, without making its command.
-fn visible_line<'a>(line: &'a [u8], digits: &'a mut Buffer) -> Visible<'a>
-    ensures { meant result ≡ visible (event_of (outcome line.now)) line.now }
+/// What a log shows of the event of a line, without making its command, and whether that is not all
+/// of the line. The value is read only where it has a type of its own. No memory is taken.
+fn logged_line<'a>(line: &'a [u8], digits: &'a mut Buffer) -> Logged<'a>
+    ensures visible { meant result.visible ≡ visible (event_of (outcome line.now)) line.now }
+    ensures hides { result.hides ≡ hides (event_of (outcome line.now)) line.now }
 {
-    match parts(line) {
-        Ok(parts) => visible_parts(&parts, line, digits),
-        Err(refused) => visible_refusal(refused.reason(), line),
+    let words = Words::of(line);
+    match words.kind() {
+        Kind::Typed => match words.parts() {
+            Ok(parts) => {
+                let sent = parameter_value(words.parameter());
+                Logged {
+                    visible: visible_parts(&parts, shown_value(words, sent), digits),
+                    hides: hides_part(words, sent),
+                }
+            }
+            Err(refused) => logged_refusal(refused, line),
+        },
+        _ => match words.sent() {
+            Ok(sent) => Logged {
+                visible: visible_verb(words.verb(), words.name(), shown_value(words, sent)),
+                hides: hides_part(words, sent),
+            },
+            Err(refused) => logged_refusal(refused, line),
+        },
+    }
+}
+
+/// What a log shows of a line that is refused so.
+fn logged_refusal<'a>(refused: ParseErrorKind, line: &'a [u8]) -> Logged<'a>
+    requires { IsRefusal (outcome line.now) refused }
+    ensures visible { meant result.visible ≡ visible (event_of (outcome line.now)) line.now }
+    ensures hides { result.hides ≡ hides (event_of (outcome line.now)) line.now }
+{
+    Logged {
+        visible: visible_refusal(refused.reason(), line),
+        hides: true,
     }
 }
 
@@ -69,19 +106,19 @@ fn visible_line<'a>(line: &'a [u8], digits: &'a mut Buffer) -> Visible<'a>
 /// | `PASS secret`, `PASS`, `LANG`, `PSAS secret` | `PASS ***`, `PASS ***`, `LANG ***`, `***` |
 /// | `NOOP x` | `refused NOOP: Invalid command` |
 ///
-/// A command is its canonical verb, and after a space the value of the line's parameter as the bytes
-/// that were sent, in the escapes of Rust's `escape_ascii`; CR NUL is one CR (RFC 854). STRU, MODE,
-/// PROT, AUTH, OPTS, PBSZ and REST have the value of their command, and SYST and HELP none. The
-/// value of PASS and ACCT is `***`, also an empty one (RFC 959, section 4.1.1).
+/// A command is its canonical verb, and after a space the value of the line's parameter as the
+/// bytes that were sent, in the escapes of Rust's `escape_ascii`; CR NUL is one CR (RFC 854). STRU,
+/// MODE, PROT, AUTH, OPTS, PBSZ and REST have the value of their command, and SYST and HELP none.
+/// The value of PASS and ACCT is `***`, also an empty one (RFC 959, section 4.1.1).
 ///
-/// A verb with no rule of its own may be a mistyped PASS, or a password: it is `***`, unless it is a
-/// word of the registry of FTP's commands (RFC 5797, section 3), ALGS (RFC 6384) or HOST (RFC 7151),
-/// with `***` for its arguments, also where it has none. So it is with the subcommands of SITE but
-/// CHMOD, IDLE, MD5, UMASK and UTIME, whose arguments are shown. A refused line is `refused`, its
-/// verb where it is such a word or has a rule, and the words of the error, such as `Invalid command`,
-/// `Non-UTF8 character while parsing`, `Invalid end-of-line` or `Line too long`: so a log shows of a
-/// password that it has an invalid line ending. Nothing else is shown of the parameter, nor anything
-/// of that of a line whose own verb hides it, with whatever event.
+/// A verb with no rule of its own may be a mistyped PASS, or a password: it is `***`, unless it is
+/// a word of the registry of FTP's commands (RFC 5797, section 3), ALGS (RFC 6384) or HOST (RFC
+/// 7151), with `***` for its arguments, also where it has none. So it is with the subcommands of
+/// SITE but CHMOD, IDLE, MD5, UMASK and UTIME, whose arguments are shown. A refused line is
+/// `refused`, its verb where it is such a word or has a rule, and the words of the error, such as
+/// `Invalid command`, `Non-UTF8 character while parsing`, `Invalid end-of-line` or `Line too long`:
+/// so a log shows of a password that it has an invalid line ending. Nothing else is shown of the
+/// parameter, nor anything of that of a line whose own verb hides it, with whatever event.
 ///
 /// It takes no memory but what `buf` needs, and fails only where `buf` lacks room for the line and
 /// can't grow: `buf` is then as it was. Nothing that is hidden is written to `buf`, not even to be
@@ -100,11 +137,19 @@ pub fn write_log_line(event: &Event, line: &[u8], buf: &mut Vec<u8>) -> Result<(
 /// Appends what `write_log_line` appends for a line and its event, without making the event: so
 /// there is no memory for a command. `line` is a line of any length, with its line feed or without
 /// one.
-pub fn write_log_of(line: &[u8], buf: &mut Vec<u8>) -> Result<(), AllocError>
+///
+/// It returns whether a part of the line is not shown: a refused line, a secret, a verb that is not
+/// shown, the arguments of a verb or a subcommand that hides them, also where it has none, a text
+/// that SYST and HELP ignore, and a parameter with an invalid line ending. A server may repeat such
+/// a part in its reply.
+pub fn write_log_of(line: &[u8], buf: &mut Vec<u8>) -> Result<bool, AllocError>
     ensures ok { OnOk result (buf.new.items ≡ buf.old.items ++ logged None line.now) }
+    ensures hides { IfOk result (λ part. part ≡ hides_part None line.now) }
     ensures err { OnErr result (buf.new.items ≡ buf.old.items) }
     ensures memory { OnErr result (LacksRoom buf.old (logged None line.now)) }
 {
     let mut digits = Buffer::new();
-    append_visible(&visible_line(line, &mut digits), buf)
+    let Logged { visible, hides } = logged_line(line, &mut digits);
+    append_visible(&visible, buf)?;
+    Ok(hides)
 }

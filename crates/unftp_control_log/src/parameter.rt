@@ -1,51 +1,52 @@
 //! What a log shows of a line's parameter.
 ghost use Rattle.std.specs.Prelude.{◌≡◌, option_map};
-ghost use Rattle.unftp_control_log.specs.LogLine.{hides_parameter, shown_argument, shown_parameter, shown_value};
+ghost use Rattle.unftp_control_codecs.specs.WordsMeaning.{BeginsWith};
+ghost use Rattle.unftp_control_defs.specs.Bytes.{Bytes};
+ghost use Rattle.unftp_control_defs.specs.ComputedValue.{value_of};
+ghost use Rattle.unftp_control_log.specs.LogLine.{hides_after, shown_value, shows_after};
 ghost use Rattle.unftp_control_message.specs.SentValues.{sent_value};
 
 use crate::words::shows_arguments;
-use unftp_control_codecs::line_parser::{parameter_value, split};
-use unftp_control_defs::verb::{Verb, verb_named};
+use unftp_control_codecs::line_parser::Words;
+use unftp_control_message::parts::Verb;
 use unftp_control_message::sent::Sent;
 
-/// Whether a log shows no parameter of this verb.
-fn hides_parameter(verb: Verb) -> bool
-    ensures { result ≡ hides_parameter verb }
+/// Whether a log shows the parameter of these words.
+fn shows_parameter(words: Words<'_>) -> bool
+    ensures { result ≡ shows_after words.entry.verb words.entry.name.now }
 {
-    matches!(verb, Verb::Pass | Verb::Acct | Verb::Syst | Verb::Help)
-}
-
-/// The parameter of a subcommand of SITE, where it is shown.
-fn shown_argument(parameter: &[u8]) -> Option<&[u8]>
-    ensures { option_map (λ bytes. bytes.now) result ≡ shown_argument parameter.now }
-{
-    let (name, arguments) = split(parameter);
-    match shows_arguments(name) {
-        Some(true) => Some(arguments),
-        Some(false) | None => None,
+    match words.verb() {
+        Verb::Pass | Verb::Acct | Verb::Syst | Verb::Help | Verb::Other => false,
+        Verb::Site => shows_arguments(words.name()).unwrap_or(false),
+        _ => true,
     }
 }
 
-/// The parameter of a line, or of its subcommand of SITE, where it is shown.
-fn shown_parameter(line: &[u8]) -> Option<&[u8]>
-    ensures { option_map (λ bytes. bytes.now) result ≡ shown_parameter line.now }
+/// The value of the parameter of these words, which is sent so, where it is shown and not empty.
+/// No memory is taken.
+pub(crate) fn shown_value<'a>(words: Words<'_>, sent: Option<Sent<'a>>) -> Option<Sent<'a>>
+    ensures { (line : Bytes) → BeginsWith line words.entry
+        → option_map sent_value sent.entry ≡ value_of words.entry.parameter.now
+        → option_map sent_value result ≡ shown_value line }
 {
-    let (word, parameter) = split(line);
-    match verb_named(word)? {
-        Verb::Site => shown_argument(parameter),
-        verb if hides_parameter(verb) => None,
-        _ => Some(parameter),
+    if !shows_parameter(words) {
+        return None;
     }
-}
-
-/// The value of that parameter, as it was sent, where it has one that is not empty. No memory is
-/// taken.
-pub(crate) fn shown_value(line: &[u8]) -> Option<Sent<'_>>
-    ensures { option_map sent_value result ≡ shown_value line.now }
-{
-    let value = parameter_value(shown_parameter(line)?)?;
+    let value = sent?;
     if value.is_empty() {
         return None;
     }
     Some(value)
+}
+
+/// Whether a log does not show all of the command of these words, whose value is sent so.
+pub(crate) fn hides_part(words: Words<'_>, sent: Option<Sent<'_>>) -> bool
+    ensures { result ≡ hides_after words.entry.verb words.entry.name.now
+        (option_map sent_value sent.entry) }
+{
+    match (words.verb(), sent) {
+        (Verb::Syst | Verb::Help, Some(text)) => !text.is_empty(),
+        (_, Some(_)) => !shows_parameter(words),
+        (_, None) => true,
+    }
 }

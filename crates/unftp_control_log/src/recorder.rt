@@ -68,8 +68,8 @@ impl Recorder {
         self.sent.push(piece)
     }
 
-    /// Appends a piece of what the client was given. When out of memory, nothing changes; it only is
-    /// where the buffer would hold more bytes than it ever did, and never for an empty piece.
+    /// Appends a piece of what the client was given. When out of memory, nothing changes; it only
+    /// is where the buffer would hold more bytes than it ever did, and never for an empty piece.
     pub fn given(&mut self, piece: &[u8]) -> Result<(), AllocError>
         ensures ok { OnOk result (IsRecorded self.old (given_piece piece.now) self.new) }
         ensures err { OnErr result (self.new ≡ self.old) }

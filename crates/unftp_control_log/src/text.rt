@@ -1,8 +1,9 @@
 //! The text of a log line.
-ghost use Rattle.std.specs.Prelude.{◌≡◌, ◌≤◌, ◌++◌, length, option_map, take, vec_capacity, vec_len, OnErr, OnOk};
+ghost use Rattle.std.specs.Prelude.{◌≡◌, ◌≤◌, ◌++◌, ◌↔◌, IsTrue, length, option_map, take, vec_capacity, vec_len, OnErr, OnOk};
+ghost use Rattle.std.specs.List.{AllByRecursion};
 ghost use Rattle.unftp_control_defs.specs.Room.{LacksRoom};
 ghost use Rattle.unftp_control_defs.specs.Verbs.{upper};
-ghost use Rattle.unftp_control_log.specs.LogLine.{RefusedLine, shown, visible_text};
+ghost use Rattle.unftp_control_log.specs.LogLine.{IsShownPlain, RefusedLine, shown, visible_text};
 ghost use Rattle.unftp_control_log.specs.Meaning.{meant};
 ghost use Rattle.unftp_control_message.specs.SentValues.{first_unit_len, sent_value, unescaped};
 ghost use Rattle.unftp_control_write.specs.Lines.{spaced_part};
@@ -22,10 +23,37 @@ fn shown_length(text: &[u8]) -> usize
     length
 }
 
+/// Whether the byte is shown as it is.
+fn is_plain(byte: u8) -> bool
+    ensures { IsTrue result ↔ IsShownPlain byte }
+{
+    matches!(byte, b' '..=b'~') && !matches!(byte, b'"' | b'\'' | b'\\')
+}
+
+/// Whether each byte of the text is.
+fn are_plain(text: &[u8]) -> bool
+    ensures { IsTrue result ↔ AllByRecursion IsShownPlain text.now }
+{
+    text.iter().all(|byte| is_plain(*byte))
+}
+
 /// Appends the text in the escapes of Rust's `escape_ascii`, or perhaps a part of it when out of
 /// memory, for a caller that removes it then. The buffer grows once at most, and only where it
 /// lacks room for them.
 pub fn append_shown(text: &[u8], buf: &mut Vec<u8>) -> Result<(), AllocError>
+    ensures ok { OnOk result (buf.new.items ≡ buf.old.items ++ shown text.now) }
+    ensures kept { take (vec_len buf.old) buf.new.items ≡ buf.old.items }
+    ensures memory { OnErr result (LacksRoom buf.old (shown text.now)) }
+    ensures capacity { vec_capacity buf.old ≤ vec_capacity buf.new }
+{
+    if are_plain(text) {
+        return buf.extend_from_slice(text);
+    }
+    append_escaped(text, buf)
+}
+
+/// The same where there is something to escape.
+fn append_escaped(text: &[u8], buf: &mut Vec<u8>) -> Result<(), AllocError>
     ensures ok { OnOk result (buf.new.items ≡ buf.old.items ++ shown text.now) }
     ensures kept { take (vec_len buf.old) buf.new.items ≡ buf.old.items }
     ensures memory { OnErr result (LacksRoom buf.old (shown text.now)) }
@@ -45,8 +73,8 @@ fn unit_len(bytes: &[u8]) -> usize
     if begins_with_cr_nul(bytes) { 2 } else { 1 }
 }
 
-/// Appends the value for which these bytes are sent, in these escapes: the NUL after a CR is none of
-/// its bytes (RFC 854).
+/// Appends the value for which these bytes are sent, in these escapes: the NUL after a CR is none
+/// of its bytes (RFC 854).
 fn append_unescaped(sent: &[u8], buf: &mut Vec<u8>) -> Result<(), AllocError>
     ensures ok { OnOk result (buf.new.items ≡ buf.old.items ++ shown (unescaped sent.now)) }
     ensures kept { take (vec_len buf.old) buf.new.items ≡ buf.old.items }

@@ -22,3 +22,9 @@ pub(crate) enum Visible<'a> {
         reason: &'static str,
     },
 }
+
+/// What a log shows of a line, and whether that is not all of it.
+pub(crate) struct Logged<'a> {
+    pub visible: Visible<'a>,
+    pub hides: bool,
+}

@@ -13,8 +13,8 @@ use itoa::Buffer;
 use std::alloc::AllocError;
 use unftp_control_read::ReceivedReply;
 
-/// Appends a line of a reply after the first one. As of all that follow, when out of memory there is
-/// perhaps a part of it.
+/// Appends a line of a reply after the first one. As of all that follow, when out of memory there
+/// is perhaps a part of it.
 fn append_further_line(line: &[u8], buf: &mut Vec<u8>) -> Result<(), AllocError>
     ensures ok { OnOk result (buf.new.items ≡ buf.old.items ++ further_line line.now) }
     ensures kept { take (vec_len buf.old) buf.new.items ≡ buf.old.items }

@@ -88,8 +88,8 @@ pub record MembersAlone (limit : Option ℕ) (accepts : Accounts) (input output 
   pub alone : AtEachPlace (AfterLogin accepts) []
       (take (length (cut_reads read)) (events limit input)) (cut_reads read)
 
--- These accounts answer about the first password as those about the other one, for the name that was
--- given by these events.
+-- These accounts answer about the first password as those about the other one, for the name that
+-- was given by these events.
 abbrev pub AnsweredAlike : Accounts → Accounts → List FtpEvent → Bytes → Bytes → Type 0
 AnsweredAlike accepts other before password another =
     (name : Bytes) → GaveName name before → accepts name password ≡ other name another

@@ -9,16 +9,31 @@ use std::simd::prelude::*;
 use std::str::from_utf8;
 
 /// A text of so many bytes or more takes less time by `long_text` than by std.
-pub const LONG: usize = 128;
+const LONG: usize = 128;
 
 /// For how many ill-formed parts a text has room from the start: each has one byte at least, and
 /// U+FFFD has three.
 const PARTS: usize = 16;
 
-/// The bytes as a text, or none where they are not UTF-8. They are tested 64 at a time, unless the
-/// first 32 are ASCII or ill-formed: then std takes less time.
+/// The bytes as a text, or none where they are not UTF-8.
+#[inline(always)]
+pub fn text(bytes: &[u8]) -> Option<&str>
+    ensures { MatchOption result (¬ (IsUtf8 bytes.now))
+        (λ text. (text.now ≡ bytes.now) × IsUtf8 bytes.now) }
+{
+    if bytes.len() >= LONG {
+        return long_text(bytes);
+    }
+    match from_utf8(bytes) {
+        Ok(text) => Some(text),
+        Err(_) => None,
+    }
+}
+
+/// The same of a long text. They are tested 64 at a time, unless the first 32 are ASCII or
+/// ill-formed: then std takes less time.
 #[inline(never)]
-pub fn long_text(bytes: &[u8]) -> Option<&str>
+fn long_text(bytes: &[u8]) -> Option<&str>
     requires { 32 ≤ length bytes.now }
     ensures { MatchOption result (¬ (IsUtf8 bytes.now))
         (λ text. (text.now ≡ bytes.now) × IsUtf8 bytes.now) }

@@ -107,7 +107,8 @@ module _ {S : Type 0} (law : FilterLaw S) (limit : Option ℕ) (sent : ℕ) wher
   AreFiltered s (decided ∷ lines) s' = (decided.fate ≡ fate_of s decided.line)
       × AreFiltered (state_then s decided.line) lines s'
 
--- The filter is asked of the client's next line: it is complete, within the limit, and may be taken.
+-- The filter is asked of the client's next line: it is complete, within the limit, and may be
+-- taken.
 pub record IsAsked (proxy : ProxyState) : Type 0 where
   pub goes_on : waits proxy ≡ false
   pub line : first_client_line proxy.client.limit (lines_of proxy.client.bytes) ≡ Some Complete

@@ -255,8 +255,8 @@ pub record IsGiven (proxy : ProxyState) : Type 0 where
   pub no_reply : FindsFirst proxy.server.limit proxy.server.bytes (Ok None)
   pub settled : proxy.server.buffered ≡ length proxy.server.bytes
 
--- There is nothing to be given, and what was given leaves the buffer; or the answer that is due is given; or the reply that is owed next,
--- as it came; or a reply came that is not owed, and stays.
+-- There is nothing to be given, and what was given leaves the buffer; or the answer that is due is
+-- given; or the reply that is owed next, as it came; or a reply came that is not owed, and stays.
 abbrev pub GivesNext : ProxyState → Option NextReply → Bytes → Bytes → ProxyState → Type 0
 GivesNext before None out out' later =
     (out' ≡ out) × (later ≡ with_settled before) × IsGiven later

@@ -86,8 +86,8 @@ LacksRoomToGive state = (out : Vec ℕ) × (out.items ≡ state.to_client)
 abbrev pub FailsSo : {S : Type 0} → RelayState S → Type 0
 FailsSo state = LacksRoomToGive state ⊎ IsAsked state.proxy
 
--- The client was given all that it can be given, and no line can be taken: nothing passes until more
--- comes.
+-- The client was given all that it can be given, and no line can be taken: nothing passes until
+-- more comes.
 pub record IsSettled (proxy : ProxyState) : Type 0 where
   pub given : IsGiven proxy
   pub no_line : waits proxy ≡ false

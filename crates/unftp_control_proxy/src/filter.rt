@@ -48,7 +48,8 @@ pub trait Filter {
     ghost law: { FilterLaw State };
 
     /// Returns what is done with this line, which is these parts, or no command for that reason
-    /// (`parts` of `unftp_control_codecs::line_parser`). It is not asked of a line that is too long.
+    /// (`parts` of `unftp_control_codecs::line_parser`). It is not asked of a line that is too
+    /// long.
     fn decide(
         &mut self,
         alloc: Global,

@@ -1,7 +1,7 @@
 //! A proxy on a control connection, without input and output: it stands between a client and a
 //! server, takes the client's lines, and sends each to the server or answers it itself. The client
-//! is given one exchange for each of its lines, in order (RFC 959, section 5.4). A filter may decide
-//! the lines, and a relay makes all calls for it.
+//! is given one exchange for each of its lines, in order (RFC 959, section 5.4). A filter may
+//! decide the lines, and a relay makes all calls for it.
 #![tactic(auto)]
 
 mod answer;

@@ -152,8 +152,8 @@ impl Proxy {
 
     /// What the client's next line is; or `None` where none is complete. `line` then returns its
     /// bytes, until it is decided. It may be decided only where the proxy doesn't wait for the
-    /// server. It takes no memory, and scans no byte for a line feed twice. A call that sends a line
-    /// reads it once more, to see that it is one clear line.
+    /// server. It takes no memory, and scans no byte for a line feed twice. A call that sends a
+    /// line reads it once more, to see that it is one clear line.
     ///
     /// Where it returns `None`, fewer bytes of the client are held than a line may have: so where
     /// it does before each piece, never more than the limit and one piece.
@@ -181,13 +181,14 @@ impl Proxy {
         self.client.is_found() && !self.waits_for_server()
     }
 
-    /// Decides the line: it is forwarded as its command, as `forward` of `unftp_control_write` does.
+    /// Decides the line: it is forwarded as its command, as `forward` of `unftp_control_write`
+    /// does.
     ///
     /// `NoLine` where no line may be decided, `NotALine` where it is too long, `Refused` where it
     /// is no command, and `Unclear` where servers read what would be sent in different ways, as
-    /// with a Telnet byte. `TooLong` where that is longer than what may be sent, `OutOfMemory` where
-    /// `to_server` has no room for it and can't grow, and `TooManyCommands` where 2^64 - 1 lines
-    /// were sent. At an error the line is still to be decided, and nothing is appended.
+    /// with a Telnet byte. `TooLong` where that is longer than what may be sent, `OutOfMemory`
+    /// where `to_server` has no room for it and can't grow, and `TooManyCommands` where 2^64 - 1
+    /// lines were sent. At an error the line is still to be decided, and nothing is appended.
     pub fn forward(&mut self, to_server: &mut Vec<u8>) -> Result<(), SendError>
         ensures ok { OnOk result
             (IsForwarded (line_in self.old.client) to_server.old.items to_server.new.items) }
@@ -470,9 +471,9 @@ impl Proxy {
     /// whole reply of the same code, as a 227 with another address. It is for a reply that
     /// `first_reply` found.
     ///
-    /// `NoReply` where none is complete, `NotOwed` where it is owed to no line, `AnotherReply` where
-    /// these bytes are not one reply of its code, and `OutOfMemory` where `to_client` has no room
-    /// for them. At an error nothing changes.
+    /// `NoReply` where none is complete, `NotOwed` where it is owed to no line, `AnotherReply`
+    /// where these bytes are not one reply of its code, and `OutOfMemory` where `to_client` has no
+    /// room for them. At an error nothing changes.
     pub fn replace_reply(
         &mut self,
         other: &[u8],

@@ -55,9 +55,9 @@ impl<F: Filter + Drop> Relay<F> {
     /// Takes a piece of what the client sent, and lets pass all that can: appends to `to_server`
     /// and `to_client` what each is to be sent. Returns why nothing more passes, if that is so.
     ///
-    /// It fails where a buffer has no room for the piece, for what is given or for what is sent, and
-    /// can't grow; and where the filter fails. The session is then to end, since the filter may have
-    /// moved on: what was appended may be sent.
+    /// It fails where a buffer has no room for the piece, for what is given or for what is sent,
+    /// and can't grow; and where the filter fails. The session is then to end, since the filter may
+    /// have moved on: what was appended may be sent.
     pub fn from_client(&mut self, alloc: Global, piece: &[u8]) -> Result<Option<End>, AllocError>
         ensures ok { OnOk result (Relays F.law piece.now []
             (relay_state_of F.state self.old) (relay_state_of F.state self.new)) }

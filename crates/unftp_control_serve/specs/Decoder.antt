@@ -88,7 +88,8 @@ cleared pending = record pending {
 -- ---- their first line
 
 -- how many bytes are kept where it is this, how many of them are not scanned where so many are, and
--- how many the buffer holds: those of a line that is too long are dropped, also of an incomplete one
+-- how many the buffer holds: those of a line that is too long are dropped, also of an incomplete
+-- one
 abbrev pub kept_as : Pending → Option ClientLine → ℕ
 kept_as pending None = kept_length pending.limit pending.bytes
 kept_as pending (Some Complete) = pending.kept

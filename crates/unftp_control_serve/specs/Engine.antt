@@ -81,8 +81,8 @@ pub record AreScanned (scanned n last : ℕ) : Type 0 where
   pub each : n ≤ scanned + last
   pub few : scanned + last ≤ n + 31
 
--- What a running engine is after a piece at Ok, where so many bytes were scanned. The buffer has held
--- the piece, and holds what is kept of the pending bytes.
+-- What a running engine is after a piece at Ok, where so many bytes were scanned. The buffer has
+-- held the piece, and holds what is kept of the pending bytes.
 abbrev pub fed : {S : Type 0} → SessionLaw S → S → EngineState → Bytes → ℕ → EngineState
 fed law s engine piece scanned = record {
   incomplete = pending_with engine law s piece;

@@ -43,11 +43,11 @@ pub(crate) enum First {
 /// an event loop of its own. A piece is pushed, and events are taken until there is none; between
 /// two of them the server does what it likes, and after the last it may clear what is pending.
 ///
-/// What reads no commands, such as a proxy, takes the lines themselves: `find_line` finds the first,
-/// `found_line` returns its bytes, and `take_line` takes it, as late as the caller likes.
-// The finder is at the first pending byte, or after the first line, where that was found. It keeps no
-// bytes of a line that is longer than its limit: they are `skipped`. The last `line` bytes that were
-// taken are those of the line that was taken last.
+/// What reads no commands, such as a proxy, takes the lines themselves: `find_line` finds the
+/// first, `found_line` returns its bytes, and `take_line` takes it, as late as the caller likes.
+// The finder is at the first pending byte, or after the first line, where that was found. It keeps
+// no bytes of a line that is longer than its limit: they are `skipped`. The last `line` bytes that
+// were taken are those of the line that was taken last.
 #[derive(Drop)]
 pub struct EventDecoder {
     finder: LineFinder,

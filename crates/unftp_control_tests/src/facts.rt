@@ -57,7 +57,8 @@ mod counted {
         assert!(rt; facts.as_str() == want);
     }
 
-    /// The facts of a file without bytes that was modified so many nanoseconds after 1970 are these.
+    /// The facts of a file without bytes that was modified so many nanoseconds after 1970 are
+    /// these.
     fn assert_modified(rt: &impl Abort, alloc: Global, nanosecond: i128, want: &str) {
         let modified = Timestamp::from_nanosecond(nanosecond).ok();
         let file = File {

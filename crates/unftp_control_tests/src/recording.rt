@@ -50,7 +50,8 @@ fn exchanges_are_recorded_in_any_pieces(rt: HostRuntime) {
     assert_held(&rt, log, RECORDED);
 }
 
-/// Appends a text, a path that is longer than what a buffer has room for at first, and a line's end.
+/// Appends a text, a path that is longer than what a buffer has room for at first, and a line's
+/// end.
 fn append_long(rt: &impl Abort, text: &[u8], buf: &mut Vec<u8>, end: &[u8]) {
     buf.extend_from_slice(text).expect(rt, "memory");
     for _ in 0..5000 {

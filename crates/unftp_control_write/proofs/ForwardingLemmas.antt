@@ -17,8 +17,6 @@ use Rattle.unftp_control_defs.specs.Forwarded.{before_end, forwarded_line, keeps
 use Rattle.unftp_control_defs.proofs.LineEndLemmas.{IsLine-ends}
 use Rattle.unftp_control_defs.proofs.ForwardedLineLemmas.{before_end-crlf, before_end-lf, cut-before_end, IsLine-forwarded_line, outcome-forwarded_line}
 use Rattle.unftp_control_defs.proofs.KeptKindLemmas.{keeps_parameter-command}
-use Rattle.unftp_control_message.specs.PartsMeaning.{said_value, said_of}
-use Rattle.unftp_control_message.specs.declared.parts.Parts.{Parts}
 use Rattle.unftp_control_write.specs.Forwarding.{IsForwarded, LacksRoomFor, sent_line}
 use Rattle.unftp_control_defs.specs.Room.{LacksRoom}
 use Rattle.unftp_control_write.specs.declared.forwarding.ForwardError.{ForwardError}
@@ -87,18 +85,18 @@ told (Ok command) parts tells = (command, refl, tells)
 told (Err refusal) parts tells = absurd tells
 
 -- What is appended for the parts of a line is the line that is forwarded.
-module _ (line text : Bytes) (parts : Parts) (read : IsSaid (outcome line) (said_of parts)) where
-  command : (command : FtpCommand) × (outcome line ≡ Ok command) × (said command ≡ said_of parts)
-  command = told (outcome line) (said_of parts) read.1
+module _ (line text : Bytes) (parts : Said) (read : IsSaid (outcome line) parts) where
+  command : (command : FtpCommand) × (outcome line ≡ Ok command) × (said command ≡ parts)
+  command = told (outcome line) parts read.1
 
   verb_said : (said command.0).verb ≡ parts.verb
   verb_said = ap (λ parts. parts.verb) command.2
 
-  value_said : (said command.0).value ≡ said_value parts.value
+  value_said : (said command.0).value ≡ parts.value
   value_said = ap (λ parts. parts.value) command.2
 
   module _ (is_line : IsLine line) (text_is : text ≡ before_end line) where
-    same_line : sent_line text parts.verb parts.value ≡ forwarded_line line command.0
+    same_line : sent_line text parts ≡ forwarded_line line command.0
     same_line = by_test (kind_keeps (kind parts.verb)) refl
       where
         verb_is : verb_of text ≡ verb_of line
@@ -113,7 +111,7 @@ module _ (line text : Bytes) (parts : Parts) (read : IsSaid (outcome line) (said
             ∙ ap (λ verb. kind_keeps (kind verb)) verb_said
 
         by_test : (test : Bool) → kind_keeps (kind parts.verb) ≡ test
-            → sent_line text parts.verb parts.value ≡ forwarded_line line command.0
+            → sent_line text parts ≡ forwarded_line line command.0
         by_test true e =
             rw (same, e) (λ i. with_parameter (upper (verb_is i)) (parameter_is i) ++ crlf)
         by_test false e =
@@ -122,7 +120,7 @@ module _ (line text : Bytes) (parts : Parts) (read : IsSaid (outcome line) (said
             ∙ (λ i. with_optional (word (verb_said i)) (value_bytes (value_said i)) ++ crlf)))
 
     forwarded : (before after : Bytes)
-        → after ≡ before ++ sent_line text parts.verb parts.value → IsForwarded line before after
+        → after ≡ before ++ sent_line text parts → IsForwarded line before after
     forwarded before after after_is = record {
       command = command.0;
       means = command.1;
@@ -132,14 +130,14 @@ module _ (line text : Bytes) (parts : Parts) (read : IsSaid (outcome line) (said
     }
 
     pub all_forwarded : {T E : Type 0} (result : Result T E) (before after : Bytes)
-        → OnOk result (after ≡ before ++ sent_line text parts.verb parts.value)
+        → OnOk result (after ≡ before ++ sent_line text parts)
         → OnOk result (IsForwarded line before after)
     all_forwarded (Ok done) before after after_is = forwarded before after after_is
     all_forwarded (Err error) before after after_is = tt
 
     pub lacks_room : {T : Type 0} (result : Result T ForwardError) (buf : Vec ℕ)
         → IfErr result (λ error. (error ≡ OutOfMemory)
-        × LacksRoom buf (sent_line text parts.verb parts.value))
+        × LacksRoom buf (sent_line text parts))
         → result ≡ Err OutOfMemory → LacksRoomFor line buf
     lacks_room (Ok done) buf why is = absurd (cc)
     lacks_room (Err error) buf why is = record {

@@ -3,16 +3,13 @@ use Rattle.std.specs.Prelude.{◌≡◌, ◌++◌, ℕ, if◌then◌else◌, Som
 use Rattle.std.specs.Global.{Vec}
 use Rattle.unftp_control_defs.specs.Bytes.{Bytes, crlf}
 use Rattle.unftp_control_defs.specs.Lines.{IsLine}
-use Rattle.unftp_control_defs.specs.FtpCommand.{FtpCommand, Refusal, kind, word}
+use Rattle.unftp_control_defs.specs.FtpCommand.{FtpCommand, Refusal, Said, kind, word}
 use Rattle.unftp_control_defs.specs.Outcome.{outcome}
 use Rattle.unftp_control_defs.specs.Canonical.{with_optional}
 use Rattle.unftp_control_defs.specs.Forwarded.{forwarded_line, kind_keeps, with_parameter}
 use Rattle.unftp_control_defs.specs.Said.{value_bytes}
 use Rattle.unftp_control_defs.specs.Verbs.{verb_of, parameter_of, upper}
-use Rattle.unftp_control_defs.specs.declared.verb.Verb.{Verb}
 use Rattle.unftp_control_message.specs.ParseRefusal.{refusal_of}
-use Rattle.unftp_control_message.specs.PartsMeaning.{said_value}
-use Rattle.unftp_control_message.specs.declared.parts.Value.{Value}
 use Rattle.unftp_control_write.specs.declared.forwarding.ForwardError.{ForwardError}
 use Rattle.unftp_control_write.specs.declared.forwarding.ForwardError.TheVariants.{NotALine, Refused, OutOfMemory}
 use Rattle.unftp_control_defs.specs.Room.{LacksRoom}
@@ -40,8 +37,8 @@ pub record LacksRoomFor (line : Bytes) (buf : Vec ℕ) : Type 0 where
   pub means : outcome line ≡ Ok command
   pub room : LacksRoom buf (forwarded_line line command)
 
--- what is forwarded for a text, a line without its end, with this verb and value
-abbrev pub sent_line : Bytes → Verb → Value → Bytes
-sent_line text verb value = if kind_keeps (kind verb)
+-- what is forwarded for a text, a line without its end, that says this
+abbrev pub sent_line : Bytes → Said → Bytes
+sent_line text parts = if kind_keeps (kind parts.verb)
     then with_parameter (upper (verb_of text)) (parameter_of text) ++ crlf
-    else with_optional (word verb) (value_bytes (said_value value)) ++ crlf
+    else with_optional (word parts.verb) (value_bytes parts.value) ++ crlf

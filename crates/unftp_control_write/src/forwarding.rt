@@ -1,6 +1,6 @@
 //! The line that a proxy sends to a server for a client's line.
 ghost use Rattle.std.specs.Prelude.{◌≡◌, ◌↔◌, ◌++◌, false, Ok, Err, IfErr, IsTrue, MatchOption, OnErr, OnOk, option_map, take, vec_len};
-ghost use Rattle.unftp_control_message.specs.PartsMeaning.{IsInPlace};
+ghost use Rattle.unftp_control_message.specs.PartsMeaning.{IsInPlace, said_of};
 ghost use Rattle.unftp_control_defs.specs.Bytes.{LF, Lacks, crlf};
 ghost use Rattle.unftp_control_defs.specs.Forwarded.{before_end, kind_keeps, with_parameter};
 ghost use Rattle.unftp_control_defs.specs.FtpCommand.{kind, unless_empty};
@@ -33,12 +33,12 @@ pub enum ForwardError {
 }
 
 /// Forwards a client's line: appends to `buf` the line that a server is sent for it, and changes no
-/// earlier byte. It is the verb in upper case, a space and the parameter's bytes as they came, up to
-/// the line's end, which becomes CR LF: also bytes that are not UTF-8, and a bare carriage return.
-/// For a verb that takes no value, or one of a type of its own, as a number, it is the canonical
-/// line of the command, as `write_command` writes it: that says all that the line says (RFC 959,
-/// section 5.3). What is sent has one line feed, its last byte, and means the same. That of PASS
-/// has the password's bytes.
+/// earlier byte. It is the verb in upper case, a space and the parameter's bytes as they came, up
+/// to the line's end, which becomes CR LF: also bytes that are not UTF-8, and a bare carriage
+/// return. For a verb that takes no value, or one of a type of its own, as a number, it is the
+/// canonical line of the command, as `write_command` writes it: that says all that the line says
+/// (RFC 959, section 5.3). What is sent has one line feed, its last byte, and means the same. That
+/// of PASS has the password's bytes.
 ///
 /// Bytes without a line feed at their end, or with another before it, are refused with `NotALine`,
 /// so that no second line is sent with the first. A line that `parse` refuses is refused with
@@ -86,10 +86,10 @@ pub fn forward_parts(line: &[u8], parts: Parts<'_>, buf: &mut Vec<u8>) -> Result
 fn append_or_nothing(text: &[u8], parts: Parts<'_>, buf: &mut Vec<u8>) -> Result<(), ForwardError>
     requires { kind_keeps (kind parts.verb) ≡ false → IsInPlace parts.value }
     ensures ok { OnOk result (buf.new.items
-        ≡ buf.old.items ++ sent_line text.now parts.entry.verb parts.entry.value) }
+        ≡ buf.old.items ++ sent_line text.now (said_of parts.entry)) }
     ensures err { OnErr result (buf.new.items ≡ buf.old.items) }
     ensures memory { IfErr result (λ error. (error ≡ ForwardError.OutOfMemory)
-        × LacksRoom buf.old (sent_line text.now parts.entry.verb parts.entry.value)) }
+        × LacksRoom buf.old (sent_line text.now (said_of parts.entry))) }
 {
     let length = buf.len();
     match append_line(text, parts, buf) {
@@ -103,7 +103,7 @@ fn append_or_nothing(text: &[u8], parts: Parts<'_>, buf: &mut Vec<u8>) -> Result
 
 /// The line without its end, a line feed and a carriage return before it; none where the bytes are
 /// not one line.
-fn without_end(line: &[u8]) -> Option<&[u8]>
+pub fn without_end(line: &[u8]) -> Option<&[u8]>
     ensures { MatchOption result (¬ IsLine line.now)
         (λ text. IsLine line.now × (text.now ≡ before_end line.now)) }
 {
@@ -133,10 +133,10 @@ fn lacks_line_feed(text: &[u8]) -> bool
 fn append_line(text: &[u8], parts: Parts<'_>, buf: &mut Vec<u8>) -> Result<(), AllocError>
     requires { kind_keeps (kind parts.verb) ≡ false → IsInPlace parts.value }
     ensures ok { OnOk result (buf.new.items
-        ≡ buf.old.items ++ sent_line text.now parts.entry.verb parts.entry.value) }
+        ≡ buf.old.items ++ sent_line text.now (said_of parts.entry)) }
     ensures kept { take (vec_len buf.old) buf.new.items ≡ buf.old.items }
     ensures memory { OnErr result
-        (LacksRoom buf.old (sent_line text.now parts.entry.verb parts.entry.value)) }
+        (LacksRoom buf.old (sent_line text.now (said_of parts.entry))) }
 {
     if kind_keeps(parts.verb.kind()) {
         let (verb, parameter) = split(text);

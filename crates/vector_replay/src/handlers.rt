@@ -95,9 +95,9 @@ impl Write for Room<'_> {
     }
 }
 
-/// Answers NOOP, QUIT, HELP, SITE and refused lines as `control_demo` does, and any other command by
-/// 502; or nothing at all. It is done once QUIT came. At an event whose turn is an error it fails
-/// with that of the line, or else with the turn's.
+/// Answers NOOP, QUIT, HELP, SITE and refused lines as `control_demo` does, and any other command
+/// by 502; or nothing at all. It is done once QUIT came. At an event whose turn is an error it
+/// fails with that of the line, or else with the turn's.
 #[derive(Drop)]
 pub struct Scripted<'a> {
     pub is_silent: bool,

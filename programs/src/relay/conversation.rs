@@ -456,17 +456,9 @@ impl Conversation {
         Ok(true)
     }
 
-    /// The exchange that a line begins. Where the log line lacks the parameter, as that of HELP,
-    /// the log has no texts of the server's replies either.
+    /// The exchange that a line begins.
     fn exchange(&self, line: &OwnedLine) -> Result<Exchange, End> {
-        let shown = line.log_line()?;
-        let has_parameter = line.parameter().map_or(true, |value| !value.is_empty());
-        let lacks_parameter = !shown.contains(' ') && has_parameter;
-        let mut exchange = Exchange::new(self.session, self.addresses.client, Some(shown));
-        if lacks_parameter {
-            exchange.hide();
-        }
-        Ok(exchange)
+        Ok(Exchange::new(self.session, self.addresses.client, Some(line.log_line()?)))
     }
 
     /// Sends the client a reply of the relay.

@@ -5,7 +5,7 @@ use std::net::SocketAddr;
 use std::time::{Duration, Instant};
 use time::format_description::well_known::Rfc3339;
 use time::OffsetDateTime;
-use unftp_control::{log_exchange, Error, ReceivedReply, Reply};
+use unftp_control::{log_exchange, Error, LogLine, ReceivedReply, Reply};
 
 /// How many preliminary replies to a line are kept. A server may send any number of them.
 const MOST_PRELIMINARY: usize = 16;
@@ -69,15 +69,15 @@ pub struct Exchange {
 }
 
 impl Exchange {
-    /// One that begins now, with a line as the log shows it, or with none.
-    pub fn new(session: u64, client: SocketAddr, line: Option<String>) -> Exchange {
-        let hides = |line: &str| line.contains("***") || line.starts_with("refused");
-        let is_hidden = line.as_deref().is_some_and(hides);
+    /// One that begins now, with a line as the log shows it, or with none. Where that hides a part
+    /// of the line, the log has no texts of the server's replies either.
+    pub fn new(session: u64, client: SocketAddr, line: Option<LogLine>) -> Exchange {
+        let is_hidden = line.as_ref().is_some_and(|line| line.hides_part);
         Exchange {
             came: OffsetDateTime::now_utc(),
             session,
             client,
-            line,
+            line: line.map(|line| line.text),
             replies: Vec::new(),
             omitted: 0,
             is_unanswered: false,

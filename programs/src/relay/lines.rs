@@ -7,8 +7,8 @@ use crate::ports;
 use std::io;
 use std::net::{SocketAddr, SocketAddrV4};
 use unftp_control::{
-    extended, forward, host_port, parameter, AddressError, Command, Error, Event, ModeParam,
-    OwnedLine, Reply, ReplyCode as Code,
+    extended, forward, host_port, is_clear, parameter, AddressError, Command, Error, Event,
+    ModeParam, OwnedLine, Reply, ReplyCode as Code,
 };
 
 /// The first port that is no system's own. A data connection to a lower one would reach a service
@@ -18,12 +18,15 @@ const FIRST_PORT: u16 = 1024;
 impl Conversation {
     /// What is done with a line.
     pub(super) fn decide(&self, line: &OwnedLine) -> Verdict {
-        if let Some(reply) = self.relay.allowed.refusal(line) {
+        let sent = sent_for(line);
+        let is_clear = sent.as_ref().map_or(true, |(_, is_clear)| *is_clear);
+        if let Some(reply) = self.relay.allowed.refusal(line, is_clear) {
             return Verdict::Answer(reply);
         }
-        let sent = if is_option(line) { Ok(as_it_is(&line.bytes)) } else { forward(&line.bytes) };
         match sent {
-            Ok(sent) if sent.len() <= self.relay.limits.line => self.decide_sent(&line.event, sent),
+            Ok((sent, _)) if sent.len() <= self.relay.limits.line => {
+                self.decide_sent(&line.event, sent)
+            }
             Ok(_) => answer(Code::COMMAND_SYNTAX_ERROR, "line too long"),
             Err(Error::OutOfMemory) => answer(Code::LOCAL_ERROR, "out of memory"),
             Err(_) => answer(Code::COMMAND_SYNTAX_ERROR, "not understood"),
@@ -172,9 +175,26 @@ fn answer(code: Code, text: &'static str) -> Verdict {
     Verdict::Answer(Reply::new(code, text))
 }
 
+/// What the server would be sent for a line, and whether that is clear.
+fn sent_for(line: &OwnedLine) -> Result<(Vec<u8>, bool), Error> {
+    if is_option(line) {
+        let sent = as_it_is(&line.bytes);
+        let is_clear = is_clear(&sent);
+        return Ok((sent, is_clear));
+    }
+    let forwarded = forward(&line.bytes)?;
+    // a CR after the verb is sent as a space, but some servers read another verb there
+    let has_return = text_of(&line.bytes).contains(&b'\r');
+    Ok((forwarded.bytes, forwarded.is_clear && !has_return))
+}
+
+/// A line without its end.
+fn text_of(line: &[u8]) -> &[u8] {
+    let text = line.strip_suffix(b"\n").unwrap_or(line);
+    text.strip_suffix(b"\r").unwrap_or(text)
+}
+
 /// A line as it is, with CR LF at its end.
 fn as_it_is(line: &[u8]) -> Vec<u8> {
-    let text = line.strip_suffix(b"\n").unwrap_or(line);
-    let text = text.strip_suffix(b"\r").unwrap_or(text);
-    [text, b"\r\n"].concat()
+    [text_of(line), b"\r\n"].concat()
 }

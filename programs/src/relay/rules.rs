@@ -1,6 +1,6 @@
 //! Which lines of clients may be sent to the server.
 use std::collections::BTreeSet;
-use unftp_control::{is_clear, Command, Event, OwnedLine, Refusal, Reply, ReplyCode as Code};
+use unftp_control::{Command, Event, OwnedLine, Refusal, Reply, ReplyCode as Code};
 
 /// Verbs that log in, ask, or read.
 const READING: &str = "ABOR ACCT ALLO CDUP CLNT CWD EPRT EPSV FEAT HASH HELP HOST LANG LIST MDTM \
@@ -50,8 +50,9 @@ impl Allowed {
         }
     }
 
-    /// The reply to a line that is not sent; `None` for one that is.
-    pub fn refusal(&self, line: &OwnedLine) -> Option<Reply> {
+    /// The reply to a line that is not sent; `None` for one that is. What would be sent is clear or
+    /// not.
+    pub fn refusal(&self, line: &OwnedLine, is_clear: bool) -> Option<Reply> {
         let verb = match &line.event {
             Event::Refused(_) if is_option(line) => "OPTS",
             Event::Refused(why) => {
@@ -60,7 +61,7 @@ impl Allowed {
             Event::Command(_) if sets_time(line) => "MFMT",
             Event::Command(command) => command.verb(),
         };
-        if !is_sent_clear(&line.bytes) {
+        if !is_clear {
             Some(Reply::new(
                 Code::COMMAND_SYNTAX_ERROR,
                 "servers read such a line in different ways",
@@ -93,11 +94,4 @@ fn sets_time(line: &OwnedLine) -> bool {
     };
     matches!(&line.event, Event::Command(Command::Mdtm { file })
         if file.trim_start().split_once(' ').is_some_and(is_time))
-}
-
-/// Whether what is sent for a line is clear: that ends by CR LF, also where the line ends by LF
-/// alone.
-fn is_sent_clear(line: &[u8]) -> bool {
-    let text = line.strip_suffix(b"\r\n").or_else(|| line.strip_suffix(b"\n")).unwrap_or(line);
-    is_clear(&[text, b"\r\n"].concat())
 }

@@ -335,22 +335,27 @@ static bool is_printable(struct bytes area)
     return true;
 }
 
-/* What a log shows of a line, with just enough room. */
-static struct bytes logged(uint32_t number, const char *line, size_t len)
+/* What a log shows of a line, with just enough room, and whether a part of it is hidden. */
+static struct bytes logged(uint32_t number, const char *line, size_t len, uint32_t *hides)
 {
     struct bytes none = area_of(0), less, out;
     size_t room, again;
+    uint32_t same = 7;
 
-    wants(unftp_log_line(number, line, len, none.at, 0, &room) == UNFTP_NO_ROOM && room > 0,
+    *hides = 7;
+    wants(unftp_log_line(number, line, len, none.at, 0, &room, hides) == UNFTP_NO_ROOM
+              && room > 0 && *hides <= 1,
           "a log shows something of each line");
     free_area(none);
     less = area_of(room - 1);
-    wants(unftp_log_line(number, line, len, less.at, room - 1, &again) == UNFTP_NO_ROOM
-              && again == room && is_filling(less),
+    wants(unftp_log_line(number, line, len, less.at, room - 1, &again, &same) == UNFTP_NO_ROOM
+              && again == room && is_filling(less) && same == *hides,
           "a log line needs this room");
     free_area(less);
     out = area_of(room);
-    wants(unftp_log_line(number, line, len, out.at, room, &again) == UNFTP_DONE && again == room,
+    same = 7;
+    wants(unftp_log_line(number, line, len, out.at, room, &again, &same) == UNFTP_DONE
+              && again == room && same == *hides,
           "a log line has just enough room");
     wants(is_printable(out), "each byte of a log line is printable ASCII");
     return out;
@@ -360,12 +365,14 @@ static struct bytes logged(uint32_t number, const char *line, size_t len)
 static void check_logged(const char *line, struct taken taken)
 {
     size_t used = taken.line.used;
-    struct bytes shown = logged((uint32_t)taken.result, line, used),
-                 too_long = logged(UNFTP_LINE_TOO_LONG, line, used);
+    uint32_t hides, hides_all;
+    struct bytes shown = logged((uint32_t)taken.result, line, used, &hides),
+                 too_long = logged(UNFTP_LINE_TOO_LONG, line, used, &hides_all);
 
-    wants(is_command(taken.result) || begins_with(shown, "refused"),
+    wants(is_command(taken.result) || (begins_with(shown, "refused") && hides == 1),
           "a log says that a line is refused");
-    wants(is_text(too_long, "refused: Line too long"), "a log says that a line is too long");
+    wants(is_text(too_long, "refused: Line too long") && hides_all == 1,
+          "a log says that a line is too long");
     wants(shown.len <= 4 * used + 42 && too_long.len <= 4 * used + 42,
           "a log line needs no more than the header says");
     free_area(shown);
@@ -399,6 +406,18 @@ static void check_cuts(const char *bytes, struct taken wanted)
     free_area(taken.area);
 }
 
+/* The line that is forwarded; whether it is clear is said with it. */
+static enum unftp_result forwarded(const char *line, size_t line_len, char *out, size_t out_room,
+                                   size_t *len)
+{
+    uint32_t clear = 7;
+    enum unftp_result result = unftp_forward(line, line_len, out, out_room, len, &clear);
+
+    wants(clear == (result == UNFTP_DONE ? unftp_is_clear(out, *len) : 0),
+          "whether what is forwarded is clear");
+    return result;
+}
+
 /* Takes all lines of an input. */
 static void check_lines(struct bytes input)
 {
@@ -419,7 +438,7 @@ static void check_lines(struct bytes input)
         refused += !is_command(taken.result);
         check_cuts(bytes, taken);
         check_written(unftp_canonical, 3 * taken.line.used, bytes, taken);
-        check_written(unftp_forward, taken.line.used + 2, bytes, taken);
+        check_written(forwarded, taken.line.used + 2, bytes, taken);
         check_parameter(bytes, taken);
         check_logged(bytes, taken);
         start += taken.line.used;
@@ -692,34 +711,58 @@ static void check_places(void)
         check_place(&places[at]);
 }
 
-/* What a log shows of commands: nothing of a password or an account, also where it is a verb. */
+/* What a log shows of lines, and whether that is not all: nothing of a password or an account, also
+   where it is a verb. */
 static void check_log_lines(void)
 {
-    static const char *const lines[][2] = {
-        {"noop\r\n", "NOOP"},
-        {"user anna\n", "USER anna"},
-        {"PASS secret\r\n", "PASS ***"},
-        {"PASS\r\n", "PASS ***"},
-        {"acct secret\r\n", "ACCT ***"},
-        {"ACCT\r\n", "ACCT ***"},
-        {"secret\r\n", "***"},
-        {"PAS secret\r\n", "***"},
-        {"rein secret\r\n", "REIN ***"},
-        {"SITE secret\r\n", "SITE ***"},
-        {"SITE umask 022\r\n", "SITE UMASK 022"},
-        {"RETR a\tb'c\"d\\e\x7f\r\n", "RETR a\\tb\\'c\\\"d\\\\e\\x7f"},
-        {"STAT \xe9\r\n", "STAT \\xe9"},
-        {"retr \xe9\r\n", "RETR \\xe9"},
-        {"type i\r\n", "TYPE i"},
-        {"LIST -la x\r\n", "LIST -la x"},
+    static const struct {
+        const char *line;
+        const char *shown;
+        uint32_t hides;
+    } lines[] = {
+        {"noop\r\n", "NOOP", 0},
+        {"user anna\n", "USER anna", 0},
+        {"USER\r\n", "USER", 0},
+        {"PASS secret\r\n", "PASS ***", 1},
+        {"PASS\r\n", "PASS ***", 1},
+        {"acct secret\r\n", "ACCT ***", 1},
+        {"ACCT\r\n", "ACCT ***", 1},
+        {"secret\r\n", "***", 1},
+        {"PAS secret\r\n", "***", 1},
+        {"rein secret\r\n", "REIN ***", 1},
+        {"LANG\r\n", "LANG ***", 1},
+        {"SITE secret\r\n", "SITE ***", 1},
+        {"SITE\r\n", "SITE ***", 1},
+        {"SITE PSWD old new\r\n", "SITE PSWD ***", 1},
+        {"SITE umask 022\r\n", "SITE UMASK 022", 0},
+        {"SITE MD5 a\r\n", "SITE MD5 a", 0},
+        {"RETR a\tb'c\"d\\e\x7f\r\n", "RETR a\\tb\\'c\\\"d\\\\e\\x7f", 0},
+        {"RETR a***b\r\n", "RETR a***b", 0},
+        {"RETR refused\r\n", "RETR refused", 0},
+        {"STAT \xe9\r\n", "STAT \\xe9", 0},
+        {"retr \xe9\r\n", "RETR \\xe9", 0},
+        {"type i\r\n", "TYPE i", 0},
+        {"TYPE A\rb\r\n", "TYPE", 1},
+        {"EPSV\r\n", "EPSV", 0},
+        {"SYST\r\n", "SYST", 0},
+        {"SYST x\r\n", "SYST", 1},
+        {"HELP\n", "HELP", 0},
+        {"help me\r\n", "HELP", 1},
+        {"LIST -la x\r\n", "LIST -la x", 0},
+        {"rest +5\r\n", "REST 5", 0},
+        {"AUTH tls\r\n", "AUTH TLS", 0},
+        {"NOOP x\r\n", "refused NOOP: Invalid command", 1},
+        {"RETR\r\n", "refused RETR: Invalid command", 1},
+        {"SITE \xff a\r\n", "refused SITE: Non-UTF8 character while parsing", 1},
     };
 
     for (size_t at = 0; at < sizeof lines / sizeof lines[0]; at++) {
-        const char *line = lines[at][0];
+        const char *line = lines[at].line;
         struct unftp_connection connection = {0, 0, 0};
         struct taken taken = take(&connection, line, strlen(line));
-        struct bytes shown = logged((uint32_t)taken.result, line, taken.line.used);
-        wants(is_text(shown, lines[at][1]), lines[at][1]);
+        uint32_t hides;
+        struct bytes shown = logged((uint32_t)taken.result, line, taken.line.used, &hides);
+        wants(is_text(shown, lines[at].shown) && hides == lines[at].hides, lines[at].shown);
         free_area(shown);
         free_area(taken.area);
     }

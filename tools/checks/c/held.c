@@ -82,14 +82,15 @@ static void make_calls(char byte, size_t count)
 {
     struct unftp_found_reply found;
     size_t len, size = count + 7;
+    uint32_t hides;
 
     memset(text, byte, count);
     memcpy(line, "RETR ", 5);
     memcpy(line + 5, text, count);
     memcpy(line + 5 + count, "\r\n", 2);
-    unftp_log_line(0, line, size, out, sizeof out, &len);
+    unftp_log_line(0, line, size, out, sizeof out, &len, &hides);
     expect("unftp_log_line", size, 3 * len + 32);
-    unftp_log_line(0, line, size, out, 0, &len);
+    unftp_log_line(0, line, size, out, 0, &len, &hides);
     expect("unftp_log_line without room", size, 3 * len + 32);
     unftp_parameter(line, size, out, sizeof out, &len);
     expect("unftp_parameter", size, 0);
@@ -112,9 +113,10 @@ static size_t logged_secrets(const char *before, const char *after)
 {
     int size = snprintf(line, sizeof line, "%s%080d%s%s\r\n", before, 0, SECRET, after);
     size_t len;
+    uint32_t hides;
 
     secrets = 0;
-    unftp_log_line(0, line, (size_t)size, out, sizeof out, &len);
+    unftp_log_line(0, line, (size_t)size, out, sizeof out, &len, &hides);
     expect("unftp_log_line", (size_t)size, 3 * len + 32);
     return secrets;
 }

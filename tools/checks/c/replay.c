@@ -418,9 +418,17 @@ static bool answer_canonical(struct words *words)
     return answer_written(words, unftp_canonical, "NoLine");
 }
 
+static enum unftp_result forwarded(const char *line, size_t line_len, char *out, size_t out_room,
+                                   size_t *len)
+{
+    uint32_t clear;
+
+    return unftp_forward(line, line_len, out, out_room, len, &clear);
+}
+
 static bool answer_forward(struct words *words)
 {
-    return answer_written(words, unftp_forward, "NotALine");
+    return answer_written(words, forwarded, "NotALine");
 }
 
 /* A value of a line, in an area that is as long as the line, or that there is none. */
@@ -460,6 +468,7 @@ static bool answer_log(struct words *words)
     struct bytes line, out;
     struct unftp_line taken;
     enum unftp_result result;
+    uint32_t hides;
     size_t room;
 
     if (!unquote_from(words, 1))
@@ -470,7 +479,7 @@ static bool answer_log(struct words *words)
     result = unftp_next(&connection, line.at, line.len, out.at, room, &taken);
     if (result == UNFTP_MORE)
         return false;
-    if (unftp_log_line(result, line.at, taken.used, out.at, room, &out.len) != UNFTP_DONE)
+    if (unftp_log_line(result, line.at, taken.used, out.at, room, &out.len, &hides) != UNFTP_DONE)
         fail("no log line");
     show_quoted(out);
     free(out.at);

@@ -95,6 +95,7 @@ static struct unftp_address address;
 static struct bytes area;
 static size_t len;
 static uint64_t place;
+static uint32_t flag;
 
 static void fail(const char *what)
 {
@@ -146,9 +147,9 @@ static void call(int name, struct bytes input, size_t room)
     case FRONT_REPLY: unftp_front_reply(input.at, input.len, &reply); break;
     case REPLY_LINES: unftp_reply_lines(input.at, input.len, area.at, room, &len); break;
     case CANONICAL: unftp_canonical(input.at, input.len, area.at, room, &len); break;
-    case FORWARD: unftp_forward(input.at, input.len, area.at, room, &len); break;
+    case FORWARD: unftp_forward(input.at, input.len, area.at, room, &len, &flag); break;
     case IS_CLEAR: unftp_is_clear(input.at, input.len); break;
-    case LOG_LINE: unftp_log_line(result, input.at, input.len, area.at, room, &len); break;
+    case LOG_LINE: unftp_log_line(result, input.at, input.len, area.at, room, &len, &flag); break;
     case LOG_EXCHANGE:
         unftp_log_exchange(shown, sizeof shown - 1, input.at, input.len, area.at, room, &len);
         break;

@@ -28,7 +28,7 @@ fn answer(case: &str) -> Option<Answer> {
         ["encode", ..] => answer_encode(&words[1..]),
         ["read", stream] => answer_read(&read_bytes(stream)?),
         ["canonical", line] => answer_written(canonical(&read_bytes(line)?)),
-        ["forward", line] => answer_written(forward(&read_bytes(line)?)),
+        ["forward", line] => answer_written(forward(&read_bytes(line)?).map(|sent| sent.bytes)),
         ["log", limit, line] => answer_log(limit, &read_bytes(line)?),
         ["exchange", "any", line, replies] => {
             answer_exchange(&read_bytes(line)?, &read_bytes(replies)?)
@@ -101,7 +101,7 @@ fn answer_log(limit: &str, line: &[u8]) -> Answer {
     let mut pending = Pending::with_limit(limit.parse().unwrap_or(0));
     pending.push(line)?;
     match pending.next_line()? {
-        Some(line) => Ok(Some(quoted(line.log_line()?.as_bytes()))),
+        Some(line) => Ok(Some(quoted(line.log_line()?.text.as_bytes()))),
         None => Ok(None),
     }
 }

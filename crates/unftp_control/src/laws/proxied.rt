@@ -17,9 +17,9 @@ use unftp_control_serve::Session;
 
 /// Through a proxy that sends for each line one that means the same, and gives each reply as it
 /// came, a client understands a server that takes lines of any length as with no proxy between:
-/// whatever the pieces, the replies that it takes from what it was given are the first ones of those
-/// to the greeting and to each of its own lines, in order (RFC 959, sections 4.2 and 5.4). What the
-/// proxy took of the server's bytes may be a beginning of them, so it holds at each time.
+/// whatever the pieces, the replies that it takes from what it was given are the first ones of
+/// those to the greeting and to each of its own lines, in order (RFC 959, sections 4.2 and 5.4).
+/// What the proxy took of the server's bytes may be a beginning of them, so it holds at each time.
 pub fn conversation_through_a_proxy<H: Session>()
     ensures so_far { (heard : List H.Heard) (state : H.State) (greeting : FtpReply)
         (limits : RustLimits) (traffic : Traffic) (later : ProxyState)

@@ -10,7 +10,7 @@ ghost use Rattle.unftp_control_client.specs.Dialogue.{new_dialogue};
 ghost use Rattle.unftp_control_client.specs.declared.dialogue.To.TheVariants.{Command, Greeting, Nothing};
 ghost use Rattle.unftp_control_c.specs.Clients.{dialogue_of, may_begin_tls, new_client, place_in, to_number};
 ghost use Rattle.unftp_control_c.specs.ExchangeLines.{IsExchangeLine, IsLeftUnread};
-ghost use Rattle.unftp_control_c.specs.LogLines.{IsLogLine, numbered_log_line};
+ghost use Rattle.unftp_control_c.specs.LogLines.{IsLogLine, numbered_hides, numbered_log_line};
 ghost use Rattle.unftp_control_c.specs.Logins.{after_answer, after_event, kept_after_all, login_step, nobody, progress_of, step_number};
 ghost use Rattle.unftp_control_c.specs.declared.login.Progress.TheVariants.{Asked, LoggedIn, Named, NoName};
 ghost use Rattle.unftp_control_c.specs.declared.login.LoginStep.TheVariants.{AskAccounts, NeedLogin, NeedName, NeedPassword, PassOn};
@@ -24,6 +24,9 @@ pub fn lines_are_logged()
         ≡ codes "refused: Line too long" }
     ensures refused { numbered_log_line 104 (codes "PASS a\rb\r\n")
         ≡ codes "refused PASS: Invalid end-of-line" }
+    ensures secret { numbered_hides 2 (codes "PASS a\r\n") ≡ true }
+    ensures all { numbered_hides 6 (codes "TYPE I\r\n") ≡ false }
+    ensures hidden { numbered_hides 105 (codes "NOOP\n") ≡ true }
     ensures memory { IsLogLine 10 (codes "NOOP\n") (Err OutOfMemory) }
     ensures always { ¬ IsLogLine 10 (codes "NOOP\n") (Err NoLine) }
     ensures raw { ¬ IsLogLine 2 (codes "PASS a\n") (Ok (codes "PASS a")) }

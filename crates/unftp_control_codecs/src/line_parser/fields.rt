@@ -7,10 +7,9 @@ ghost use Rattle.unftp_control_defs.specs.Rules.{optional_text};
 ghost use Rattle.unftp_control_message.specs.PartsMeaning.{IsBorrowed, said_value};
 ghost use Rattle.unftp_control_message.specs.SentValues.{sent_value};
 
-use std::str::from_utf8;
 use unftp_control_message::parts::Value;
 use unftp_control_message::sent::Sent;
-use unftp_control_message::utf8::{LONG, long_text};
+use unftp_control_message::utf8;
 
 /// The value as text; in the line where it is there as it is.
 #[inline(always)]
@@ -22,26 +21,9 @@ pub fn text(sent: Sent<'_>) -> Value<'_>
     let Sent::Plain(bytes) = sent else {
         return Value::Lossy(sent);
     };
-    if bytes.len() >= LONG {
-        return plain_text(bytes);
-    }
-    match from_utf8(bytes) {
-        Ok(text) => Value::Text(text),
-        Err(_) => Value::Lossy(sent),
-    }
-}
-
-/// The same for a long value that is sent as it is.
-#[inline(never)]
-#[tactic(auto, using(crate::proofs::TextLemmas::texts))]
-fn plain_text(bytes: &[u8]) -> Value<'_>
-    requires { 32 ≤ length bytes.now }
-    ensures value { said_value result ≡ Text (utf8_lossy bytes.now) }
-    ensures borrowed { IsBorrowed result }
-{
-    match long_text(bytes) {
+    match utf8::text(bytes) {
         Some(text) => Value::Text(text),
-        None => Value::Lossy(Sent::Plain(bytes)),
+        None => Value::Lossy(sent),
     }
 }
 

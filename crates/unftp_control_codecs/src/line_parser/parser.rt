@@ -1,6 +1,7 @@
 //! A line's verb and parameter, what it says, and the command that it is.
-ghost use Rattle.std.specs.Prelude.{◌≡◌, ◌≢◌, ◌≤◌, ◌<◌, ℕ, [], IsTrue, false, length, option_map, slice_index, IfOk, IfSome, MatchOption};
+ghost use Rattle.std.specs.Prelude.{◌≡◌, ◌≢◌, ◌≤◌, ◌<◌, ℕ, [], IsTrue, false, length, option_map, slice_index, IfErr, IfOk, IfSome, MatchOption, true};
 ghost use Rattle.std.specs.List.{position_or_len};
+ghost use Rattle.std.specs.Str.{is_utf8};
 ghost use Rattle.unftp_control_message.specs.CommandMeaning.{command_of};
 ghost use Rattle.unftp_control_message.specs.SentValues.{sent_value};
 ghost use Rattle.unftp_control_defs.specs.Bytes.{Bytes};
@@ -16,7 +17,7 @@ ghost use Rattle.unftp_control_defs.specs.ComputedValue.{value_of};
 ghost use Rattle.unftp_control_defs.specs.declared.verb.Kind.TheVariants as kinds;
 ghost use Rattle.unftp_control_codecs.specs.Memory.{MayTakeMemory, OnOutOfMemory, ParsesTo, PartsTo, ReadsTo};
 ghost use Rattle.unftp_control_codecs.specs.ParseAnswer.{Returns};
-ghost use Rattle.unftp_control_codecs.specs.WordsMeaning.{AreWords, BeginsWith, EndsWith, IsLone, IsUsual};
+ghost use Rattle.unftp_control_codecs.specs.WordsMeaning.{AreWords, BeginsWith, EndsAfterByte, IsLone, IsSubcommand, IsUsual, Sends, refuses};
 
 use crate::line_parser::fields::{listing, optional_text, path_in, raw, text};
 use crate::line_parser::typed::typed;
@@ -28,10 +29,10 @@ use std::result;
 use std::simd::prelude::*;
 use std::str::from_utf8;
 use unftp_control_defs::verb::verb_named;
-use unftp_control_message::Command;
 use unftp_control_message::parts::{Kind, Parts, Value, Verb};
 use unftp_control_message::reply::error::{ParseErrorKind, Result};
 use unftp_control_message::sent::Sent;
+use unftp_control_message::{Command, utf8};
 
 /// How many bytes the longest verb with a rule of its own has. `memchr3` takes longer over so few.
 const LONGEST_VERB: usize = 4;
@@ -161,12 +162,12 @@ fn command_in(alloc: Global, line: &[u8]) -> result::Result<Command, ParseErrorK
 pub fn parts(line: &[u8]) -> result::Result<Parts<'_>, ParseErrorKind>
     ensures { PartsTo (outcome line.now) result }
 {
-    Words::of(line)?.parts()
+    Words::of(line).parts()
 }
 
-/// The value of a line's parameter (RFC 959, section 5.3): the bytes that were sent, a CR NUL as one
-/// CR (RFC 854), without the line's end. It is `None` exactly where the parameter has an invalid
-/// line ending. The verb is not looked at, and no memory is taken.
+/// The value of a line's parameter (RFC 959, section 5.3): the bytes that were sent, a CR NUL as
+/// one CR (RFC 854), without the line's end. It is `None` exactly where the parameter has an
+/// invalid line ending. The verb is not looked at, and no memory is taken.
 ///
 /// The parameter of SITE is a subcommand and a parameter of that. For the value of the latter call
 /// it with the bytes of the line after SITE and the one byte that follows it.
@@ -195,37 +196,36 @@ pub struct Words<'a> {
     /// What is made of the parameter.
     kind: Kind,
     /// The name of another subcommand of SITE, or of another verb; else empty.
-    name: &'a str,
+    name: &'a [u8],
     /// The parameter bytes.
     parameter: &'a [u8],
 }
 
 impl<'a> Words<'a> {
-    /// The words that a line begins with. It takes no memory. It is refused with `InvalidUtf8` where
-    /// the verb, or the subcommand of SITE, is not UTF-8.
+    /// The words that a line begins with. It takes no memory.
     #[inline(always)]
-    #[tactic(auto, using(crate::proofs::OutcomeLemmas::outcomes))]
-    pub fn of(line: &'a [u8]) -> result::Result<Words<'a>, ParseErrorKind>
-        ensures words { BeginsWith (outcome line.now) result }
-        ensures in_line { IfOk result (λ words. EndsWith line.now words.parameter.now) }
+    pub fn of(line: &'a [u8]) -> Words<'a>
+        ensures begins { BeginsWith line.now result }
+        ensures means { AreWords (outcome line.now) result }
+        ensures in_line { EndsAfterByte line.now result.parameter.now }
     {
         let (word, parameter) = split(line);
         let Some(verb) = verb_named(word) else {
-            return Ok(Words {
+            return Words {
                 verb: Verb::Other,
                 kind: Kind::OptionalText,
-                name: from_utf8(word)?,
+                name: word,
                 parameter,
-            });
+            };
         };
         match verb.kind() {
             Kind::Subcommand => site(parameter),
-            kind => Ok(Words {
+            kind => Words {
                 verb,
                 kind,
-                name: "",
+                name: b"",
                 parameter,
-            }),
+            },
         }
     }
 
@@ -237,8 +237,34 @@ impl<'a> Words<'a> {
         self.verb
     }
 
-    /// The verb, where it is all that the line says: its parameter is ignored, or there is none
-    /// before the line's CR LF. It is for callers to whom a value's absence is worth a test.
+    /// What the verb makes of its parameter.
+    #[inline(always)]
+    pub fn kind(self) -> Kind
+        ensures { result ≡ self.entry.kind }
+    {
+        self.kind
+    }
+
+    /// The name of another subcommand of SITE, or of another verb, in the case of the line; else it
+    /// is empty. It may not be UTF-8: `sent` and `parts` refuse such a line.
+    #[inline(always)]
+    pub fn name(self) -> &'a [u8]
+        ensures { result.now ≡ self.entry.name.now }
+    {
+        self.name
+    }
+
+    /// The parameter bytes.
+    #[inline(always)]
+    pub fn parameter(self) -> &'a [u8]
+        ensures { result.now ≡ self.entry.parameter.now }
+    {
+        self.parameter
+    }
+
+    /// The verb, where it is all that the line says: its parameter is ignored, or is what the CR LF
+    /// of a line without one leaves. It is none for `NOOP` before a line feed alone, though that
+    /// says no more. It is for callers to whom a value's absence is worth a test.
     #[inline(always)]
     pub fn lone_verb(self) -> Option<Verb>
         ensures lone { MatchOption result (¬ IsLone self.entry)
@@ -266,12 +292,27 @@ impl<'a> Words<'a> {
             }
             Kind::Text => {
                 let value = some_usual_value(self.parameter)?;
-                match from_utf8(value) {
-                    Ok(_) => Some(value),
-                    Err(_) => None,
-                }
+                utf8::text(value)?;
+                Some(value)
             }
             _ => None,
+        }
+    }
+
+    /// The value that the verb takes, as it was sent, for callers that make nothing of it: no text
+    /// is tested. It is none where the verb ignores a parameter with an invalid line ending. The
+    /// line is refused as by `parts`, and no memory is taken.
+    #[inline(always)]
+    pub fn sent(self) -> result::Result<Option<Sent<'a>>, ParseErrorKind>
+        requires { self.kind ≢ kinds.Typed }
+        ensures { (answer : Outcome) → AreWords answer self.entry
+            → Sends answer self.entry result }
+    {
+        self.text_name()?;
+        match parameter_value(self.parameter) {
+            Some(sent) if refuses(self.kind, sent) => Err(ParseErrorKind::InvalidCommand),
+            None if !matches!(self.kind, Kind::Ignored) => Err(ParseErrorKind::InvalidEol),
+            sent => Ok(sent),
         }
     }
 
@@ -279,39 +320,45 @@ impl<'a> Words<'a> {
     #[inline(always)]
     pub fn parts(self) -> result::Result<Parts<'a>, ParseErrorKind>
         requires { self.kind ≢ kinds.Subcommand }
-        ensures { (answer : Outcome) → AreWords answer self.entry → PartsTo answer result }
+        ensures parts { (answer : Outcome) → AreWords answer self.entry → PartsTo answer result }
+        ensures verb { IfOk result (λ parts. parts.verb ≡ self.entry.verb) }
     {
         Ok(Parts {
             verb: self.verb,
-            name: self.name,
+            name: self.text_name()?,
             value: value(self.kind, self.verb, self.parameter)?,
         })
+    }
+
+    /// The name as a text.
+    #[inline(always)]
+    #[tactic(auto, using(crate::proofs::OutcomeLemmas::outcomes))]
+    fn text_name(self) -> result::Result<&'a str, ParseErrorKind>
+        ensures ok { IfOk result (λ text. (text.now ≡ self.entry.name.now)
+            × (is_utf8 self.entry.name.now ≡ true)) }
+        ensures err { IfErr result (λ error. (error ≡ ParseErrorKind.InvalidUtf8)
+            × (is_utf8 self.entry.name.now ≡ false)) }
+    {
+        if self.name.is_empty() {
+            return Ok("");
+        }
+        Ok(from_utf8(self.name)?)
     }
 }
 
 /// The words of SITE: a subcommand, and the parameter of that (RFC 959, section 4.1.3).
 #[inline(always)]
-#[tactic(auto, using(crate::proofs::OutcomeLemmas::outcomes))]
-fn site(parameter: &[u8]) -> result::Result<Words<'_>, ParseErrorKind>
-    ensures words { BeginsWith (site_outcome parameter.now) result }
-    ensures in_line { IfOk result (λ words. EndsWith parameter.now words.parameter.now) }
+fn site(parameter: &[u8]) -> Words<'_>
+    ensures begins { IsSubcommand parameter.now result }
+    ensures means { AreWords (site_outcome parameter.now) result }
+    ensures in_line { EndsAfterByte parameter.now result.parameter.now }
 {
     let (name, parameter) = split(parameter);
-    Ok(subcommand(from_utf8(name)?, parameter))
-}
-
-/// A SITE subcommand, and its parameter.
-#[inline(always)]
-fn subcommand<'a>(name: &'a str, parameter: &'a [u8]) -> Words<'a>
-    ensures words { AreWords
-        (value_outcome (subcommand_outcome (upper name.now)) (value_of parameter.now)) result }
-    ensures parameter { result.parameter.now ≡ parameter.now }
-{
-    if is_same_word(name.as_bytes(), b"MD5") {
+    if is_same_word(name, b"MD5") {
         return Words {
             verb: Verb::Md5,
             kind: Kind::Text,
-            name: "",
+            name: b"",
             parameter,
         };
     }
@@ -320,6 +367,18 @@ fn subcommand<'a>(name: &'a str, parameter: &'a [u8]) -> Words<'a>
         kind: Kind::OptionalText,
         name,
         parameter,
+    }
+}
+
+/// Whether a verb of this kind refuses the value: that of a verb alone is empty, and a text is not.
+#[inline(always)]
+fn refuses(kind: Kind, sent: Sent<'_>) -> bool
+    ensures { result ≡ refuses kind (sent_value sent.entry) }
+{
+    match kind {
+        Kind::Alone => !sent.is_empty(),
+        Kind::Text => sent.is_empty(),
+        _ => false,
     }
 }
 
@@ -348,20 +407,13 @@ fn taken<'a>(kind: Kind, verb: Verb, sent: Sent<'a>) -> result::Result<Value<'a>
     ensures { (name : Bytes) → KindSaysBack kind verb name
         → ReadsTo (taken kind verb name (sent_value sent.entry)) verb name result }
 {
+    if refuses(kind, sent) {
+        return Err(ParseErrorKind::InvalidCommand);
+    }
     match kind {
-        Kind::Alone => {
-            if sent.is_empty() {
-                return Ok(Value::None);
-            }
-            Err(ParseErrorKind::InvalidCommand)
-        }
+        Kind::Alone => Ok(Value::None),
         Kind::Raw => Ok(raw(sent)),
-        Kind::Text => {
-            if sent.is_empty() {
-                return Err(ParseErrorKind::InvalidCommand);
-            }
-            Ok(text(sent))
-        }
+        Kind::Text => Ok(text(sent)),
         Kind::OptionalText => Ok(optional_text(sent)),
         Kind::Listing => Ok(listing(sent)),
         Kind::Typed => typed(verb, sent),

@@ -7,22 +7,24 @@ use Rattle.unftp_control_c.proofs.ForwardedLineLemmas.{some_parameter, without_p
 use Rattle.unftp_control_c.proofs.forwarding.put_kept.Goals as goal
 
 pub returns-then-is_empty : goal.returns-then-is_empty
-returns-then-is_empty c = λ start sent before.
+returns-then-is_empty c =
+    let start = c.args.area.now in
     let verb = upper c.split.result.0.now in
     rw (← c.split.ensures.verb, ← c.split.ensures.parameter)
     (subst (λ text. HasText start text c.put.new.area c.put.new.len)
-    (without_parameter sent verb c.split.result.1.now
+    (without_parameter [] verb c.split.result.1.now
     (grind (arith, nat_tests, c.is_empty.ensures, c.if-is_empty.true)))
-    (c.put.ensures start (sent ++ verb) (c.put_upper.ensures start sent before)))
+    (c.put.ensures start verb c.begin_upper.ensures))
 
 pub returns : goal.returns
-returns c = λ start sent before.
+returns c =
+    let start = c.args.area.now in
     let verb = upper c.split.result.0.now in
     let parameter = c.split.result.1.now in
     rw (← c.split.ensures.verb, ← c.split.ensures.parameter)
     (subst (λ text. HasText start text c.put-4.new.area c.put-4.new.len)
-    (some_parameter sent verb parameter
+    (some_parameter [] verb parameter
     (grind (arith, nat_tests, c.is_empty.ensures, c.if-is_empty.false)))
-    (c.put-4.ensures start (((sent ++ verb) ++ SP ∷ []) ++ parameter)
-    (c.put-3.ensures start ((sent ++ verb) ++ SP ∷ [])
-    (c.put-2.ensures start (sent ++ verb) (c.put_upper.ensures start sent before)))))
+    (c.put-4.ensures start ((verb ++ SP ∷ []) ++ parameter)
+    (c.put-3.ensures start (verb ++ SP ∷ [])
+    (c.put-2.ensures start verb c.begin_upper.ensures))))

@@ -1,55 +1,52 @@
-use Rattle.std.proofs.Common.{Ok, Err, refl, sym, ap, subst, ◌∙◌}
-use Rattle.std.proofs.lemmas.Bool.{false≢true}
+use Rattle.std.proofs.Common.{Ok, Err, sym, ap, subst, ◌∙◌}
 use Rattle.unftp_control_defs.specs.Lines.{IsLine}
 use Rattle.unftp_control_defs.specs.Outcome.{outcome}
-use Rattle.unftp_control_write.specs.Forwarding.{sent_line}
-use Rattle.unftp_control_c.specs.Next.{line_text}
-use Rattle.unftp_control_c.specs.Numbers.{kind_status, status_number}
-use Rattle.unftp_control_c.specs.declared.status.Status.TheVariants.{NoLine}
+use Rattle.unftp_control_c.specs.ForwardedLines.{forwarded_text}
 use Rattle.unftp_control_c.proofs.AreaLemmas.{filled_done}
-use Rattle.unftp_control_c.proofs.ForwardedLineLemmas.{one_line, read_back, refused, sent_is}
+use Rattle.unftp_control_c.proofs.ForwardedLineLemmas.{no_line, some_line, why_not}
 use Rattle.unftp_control_c.proofs.forwarding.unftp_forward.Goals as goal
 
-pub returns-then-not-is_line-clause-writes : goal.returns-then-not-is_line-clause-writes
-returns-then-not-is_line-clause-writes c = (
-  Err NoLine,
-  λ is. false≢true (c.if-not-is_line.ensures.1 is),
+pub returns-in-Err-clause-writes : goal.returns-in-Err-clause-writes
+returns-in-Err-clause-writes c = (
+  Err c.in-Err.status,
+  why_not c.args.line.now c.in-Err.status c.in-Err.ensures,
   λ i. record { result = c.number.ensures i; area = c.args.out.now; text_length = 0 },
 )
 
-pub returns-in-Ok-clause-writes : goal.returns-in-Ok-clause-writes
-returns-in-Ok-clause-writes c =
-    let line = c.args.line.now in
-    let parts = c.in-Ok.parts in (
-      Ok (sent_line (line_text line) parts.verb parts.value),
-      sent_is line (c.if-not-is_line.ensures.0 refl) parts c.in-Ok.ensures.0,
-      rw c.line_text.ensures at c.write_sent.ensures,
-    )
+pub returns-in-Err-clause-is_line : goal.returns-in-Err-clause-is_line
+returns-in-Err-clause-is_line c = λ is e.
+    some_line c.args.line.now c.in-Err.status c.in-Err.ensures is (sym c.number.ensures ∙ e)
 
-pub returns-in-Ok-clause-one_line : goal.returns-in-Ok-clause-one_line
-returns-in-Ok-clause-one_line c = λ done.
-    let line = c.args.line.now in
-    let parts = c.in-Ok.parts in
-    let left = rw c.line_text.ensures at c.write_sent.ensures in
-    rw (ap (λ filled. filled.text_length) left, ap (λ filled. filled.area) left)
-    (subst IsLine (sym (filled_done (sent_line (line_text line) parts.verb parts.value)
-    c.args.out.now (sym (ap (λ filled. filled.result) left) ∙ done)))
-    (one_line line (c.if-not-is_line.ensures.0 refl) parts c.in-Ok.ensures.0))
+pub returns-in-Err-clause-not_a_line : goal.returns-in-Err-clause-not_a_line
+returns-in-Err-clause-not_a_line c = λ none.
+    c.number.ensures ∙ no_line c.args.line.now c.in-Err.status c.in-Err.ensures none
 
-pub returns-in-Ok-clause-read_back : goal.returns-in-Ok-clause-read_back
-returns-in-Ok-clause-read_back c = λ done.
-    let line = c.args.line.now in
-    let parts = c.in-Ok.parts in
-    let left = rw c.line_text.ensures at c.write_sent.ensures in
+pub returns-then-number-clause-writes : goal.returns-then-number-clause-writes
+returns-then-number-clause-writes c = (
+  Ok (forwarded_text c.in-Ok.forwarded),
+  c.in-Ok.ensures.1.is,
+  c.write_forwarded-number.ensures,
+)
+
+pub returns-else-number-clause-writes : goal.returns-else-number-clause-writes
+returns-else-number-clause-writes c = (
+  Ok (forwarded_text c.in-Ok.forwarded),
+  c.in-Ok.ensures.1.is,
+  c.write_forwarded-number.ensures,
+)
+
+pub returns-then-number-clause-one_line : goal.returns-then-number-clause-one_line
+returns-then-number-clause-one_line c = λ done.
+    let left = c.write_forwarded-number.ensures in
     rw (ap (λ filled. filled.text_length) left, ap (λ filled. filled.area) left)
-    (ap outcome (filled_done (sent_line (line_text line) parts.verb parts.value) c.args.out.now
+    (subst IsLine (sym (filled_done (forwarded_text c.in-Ok.forwarded) c.args.out.now
+    (sym (ap (λ filled. filled.result) left) ∙ done)))
+    c.in-Ok.ensures.1.one_line)
+
+pub returns-then-number-clause-read_back : goal.returns-then-number-clause-read_back
+returns-then-number-clause-read_back c = λ done.
+    let left = c.write_forwarded-number.ensures in
+    rw (ap (λ filled. filled.text_length) left, ap (λ filled. filled.area) left)
+    (ap outcome (filled_done (forwarded_text c.in-Ok.forwarded) c.args.out.now
     (sym (ap (λ filled. filled.result) left) ∙ done))
-    ∙ read_back line (c.if-not-is_line.ensures.0 refl) parts c.in-Ok.ensures.0)
-
-pub returns-in-Err-clause-writes : goal.returns-in-Err-clause-writes
-returns-in-Err-clause-writes c =
-    let status = c.number-in-Err.ensures ∙ ap status_number c.kind_status.ensures in (
-      Err (kind_status c.in-Err.kind),
-      refused c.args.line.now c.in-Err.kind c.in-Err.ensures,
-      λ i. record { result = status i; area = c.args.out.now; text_length = 0 },
-    )
+    ∙ c.in-Ok.ensures.1.read_back)

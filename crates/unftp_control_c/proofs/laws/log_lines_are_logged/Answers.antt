@@ -7,11 +7,11 @@ use Rattle.unftp_control_defs.specs.Events.{Refused, event_of, exceeds, line_too
 use Rattle.unftp_control_defs.specs.FtpCommand.{Outcome, InvalidCommand, InvalidEol, InvalidUtf8, User}
 use Rattle.unftp_control_defs.specs.Outcome.{outcome}
 use Rattle.unftp_control_log.specs.Known.{known}
-use Rattle.unftp_control_log.specs.LogLine.{IsPrintable, log_line, logged}
+use Rattle.unftp_control_log.specs.LogLine.{IsPrintable, hides, log_line, logged}
 use Rattle.unftp_control_log.proofs.HiddenLemmas.{logged_alike}
 use Rattle.unftp_control_log.proofs.PrintableLemmas.{log_line_prints}
 use Rattle.unftp_control_c.specs.Next.{given_for}
-use Rattle.unftp_control_c.specs.LogLines.{numbered_log_line}
+use Rattle.unftp_control_c.specs.LogLines.{numbered_hides, numbered_log_line}
 use Rattle.unftp_control_c.proofs.laws.log_lines_are_logged.Goals as goal
 
 -- no event of a line within the limit has the number of one that is too long
@@ -29,6 +29,13 @@ same_by : (line : Bytes) (too_long : Bool) → numbered_log_line
 same_by line true = refl
 same_by line false = rw (number_apart (outcome line)) refl
 
+hides_by : (line : Bytes) (too_long : Bool) → numbered_hides
+    (given_for (if too_long then Refused line_too_long else event_of (outcome line))).number line
+    ≡ hides (if too_long then Refused line_too_long else event_of (outcome line))
+    (if too_long then [] else line)
+hides_by line true = refl
+hides_by line false = rw (number_apart (outcome line)) refl
+
 prints_by : (line : Bytes) (too_long : Bool) → AllByRecursion IsPrintable
     (if too_long then log_line (Refused line_too_long) [] else logged None line)
 prints_by line true = log_line_prints (Refused line_too_long) []
@@ -43,6 +50,7 @@ alike_by line other false same = logged_alike None line other same
 pub returns : goal.returns
 returns c = record {
   same = λ limit line is_line. same_by line (exceeds limit (length line));
+  hides = λ limit line is_line. hides_by line (exceeds limit (length line));
   too_long = λ line other. refl;
   printable = λ number line. prints_by line (number == 105);
   secrets = λ number line other same. alike_by line other (number == 105) same;

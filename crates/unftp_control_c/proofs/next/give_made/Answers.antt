@@ -4,7 +4,7 @@ use Rattle.unftp_control_defs.specs.Said.{MeansCommand}
 use Rattle.unftp_control_defs.specs.Verbs.{upper}
 use Rattle.unftp_control_log.proofs.PartsLemmas.{upper-upper}
 use Rattle.unftp_control_message.specs.CommandMeaning.{command_of}
-use Rattle.unftp_control_message.specs.PartsMeaning.{said_of, spelled}
+use Rattle.unftp_control_message.specs.PartsMeaning.{said_of}
 use Rattle.unftp_control_c.specs.Next.{call_with, given_of, gives}
 use Rattle.unftp_control_c.proofs.NextLemmas.{said_given}
 use Rattle.unftp_control_c.proofs.next.give_made.Goals as goal

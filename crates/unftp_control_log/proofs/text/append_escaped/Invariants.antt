@@ -1,7 +1,7 @@
 use Rattle.std.proofs.Common.{◌≡◌, ◌≤◌, ◌++◌, vec_capacity}
 use Rattle.unftp_control_log.specs.LogLine.{shown}
 use Rattle.unftp_control_log.proofs.ShownTextLemmas.{left}
-use Rattle.unftp_control_log.proofs.text.append_shown.Given as goal
+use Rattle.unftp_control_log.proofs.text.append_escaped.Given as goal
 
 abbrev pub invariant-loop-byte : goal.invariant-loop-byte
 invariant-loop-byte l = record {
