@@ -9,3 +9,4 @@ pub mod TransferRunLemmas
 pub mod TransferOutcomeLemmas
 pub mod TransferLawLemmas
 mod LogLemmas
+mod RelayLemmas

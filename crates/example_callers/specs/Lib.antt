@@ -17,5 +17,4 @@ pub mod CameTo
 pub mod TransferLaws
 pub mod TransferExamples
 pub mod Log
-pub mod Allowed
 pub mod Relays

@@ -1,19 +1,19 @@
 //! Examples of the definitions of this crate, worked out by hand: values for which each holds and
 //! values for which it doesn't.
 ghost use Rattle.std.specs.Prelude.{◌≡◌, Bool, [], ◌∷◌, None, Some, codes, false, true};
-ghost use Rattle.example_callers.specs.Allowed.{only_reads};
 ghost use Rattle.example_callers.specs.EventLoop.{loop_replies, turn_after};
 ghost use Rattle.example_callers.specs.FactList.{facts_asked, facts_text};
 ghost use Rattle.example_callers.specs.Forwarding.{IsReplyInPlace};
+ghost use Rattle.example_callers.specs.Relays.{decided};
 ghost use Rattle.example_callers.specs.Restarting.{restarting};
 ghost use Rattle.example_callers.specs.UntilTls.{BeginsTls, EndsWithAuth};
 ghost use Rattle.example_callers.specs.WholeLine.{AsksFor, all_facts, image_modes, modes_after, no_facts, line_reply};
 ghost use Rattle.unftp_control_defs.specs.Bytes.{Bytes};
 ghost use Rattle.unftp_control_defs.specs.Events.{Command, Refused, refusal_fault};
 ghost use Rattle.unftp_control_defs.specs.FtpCommand.{Auth, Epsv, InvalidCommand, Other, Pasv, Quit, Retr, TypeCode};
-ghost use Rattle.unftp_control_proxy.specs.Filtering.{AnswerWith, AsItIs, Forward};
 ghost use Rattle.unftp_control_write.specs.Forwarding.{IsForwardError, IsForwarded};
 ghost use Rattle.unftp_control_defs.specs.FtpReply.{CodeAndMsg};
+ghost use Rattle.unftp_control_defs.specs.Outcome.{outcome};
 ghost use Rattle.unftp_control_defs.specs.Input.{InputState};
 ghost use Rattle.unftp_control_defs.specs.Run.{replies_to};
 ghost use Rattle.unftp_control_serve.specs.Writing.{OutputState};
@@ -24,6 +24,7 @@ pub mod sessions;
 pub mod transfers;
 
 use crate::event_loop::Turn;
+use crate::relay::Decision;
 use crate::whole_line::{Asked, Modes};
 use unftp_control_codecs::line_parser::ParseErrorKind;
 use unftp_control_write::ForwardError;
@@ -66,14 +67,18 @@ pub fn clients_are_replied()
 /// for its verb, but for that of AUTH.
 #[tactic(auto, unfolding(unftp_control_defs::proofs::Computing::at_bytes))]
 pub fn lines_only_read()
-    ensures lower_case { only_reads.says tt (codes "retr a\n") ≡ Forward }
-    ensures delete { only_reads.says tt (codes "DELE a\r\n")
-        ≡ AnswerWith (CodeAndMsg 502 (codes "Not allowed here")) }
-    ensures time { only_reads.says tt (codes "MDTM 20010203040506 a\r\n") ≡ Forward → ⊥ }
-    ensures refused { only_reads.says tt (codes "RETR\r\n") ≡ AsItIs }
-    ensures refused_delete { only_reads.says tt (codes "DELE\r\n") ≡ AsItIs → ⊥ }
-    ensures auth { only_reads.says tt (codes "AUTH\r\n")
-        ≡ AnswerWith (CodeAndMsg 500 (codes "Not understood")) }
+    ensures lower_case { decided (codes "retr a\n") (outcome (codes "retr a\n"))
+        ≡ Decision.Forward }
+    ensures delete { decided (codes "DELE a\r\n") (outcome (codes "DELE a\r\n"))
+        ≡ Decision.NotAllowed }
+    ensures time { decided (codes "MDTM 20010203040506 a\r\n")
+        (outcome (codes "MDTM 20010203040506 a\r\n")) ≡ Decision.Forward → ⊥ }
+    ensures refused { decided (codes "RETR\r\n") (outcome (codes "RETR\r\n"))
+        ≡ Decision.SendAsItIs }
+    ensures refused_delete { decided (codes "DELE\r\n") (outcome (codes "DELE\r\n"))
+        ≡ Decision.SendAsItIs → ⊥ }
+    ensures auth { decided (codes "AUTH\r\n") (outcome (codes "AUTH\r\n"))
+        ≡ Decision.NotUnderstood }
 {}
 
 /// REIN has two replies, and a longer name has one.

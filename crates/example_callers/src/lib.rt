@@ -7,7 +7,6 @@ pub mod codes;
 pub mod event_loop;
 pub mod examples;
 pub mod fact_list;
-pub mod filter;
 pub mod first;
 pub mod handler;
 pub mod lines;

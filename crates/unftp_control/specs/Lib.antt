@@ -81,9 +81,5 @@ pub use Rattle.unftp_control_log.specs.Known
 pub use Rattle.unftp_control_proxy.specs.ProxyAnswers
 pub use Rattle.unftp_control_proxy.specs.ProxyCalls
 pub use Rattle.unftp_control_proxy.specs.Traffic
-pub use Rattle.unftp_control_proxy.specs.Filtering
-pub use Rattle.unftp_control_proxy.specs.Relaying
 pub use Rattle.unftp_control_log.specs.Exchanges
-pub use Rattle.unftp_control_log.specs.ToCome
-pub use Rattle.unftp_control_log.specs.Recording
 pub use Rattle.unftp_control_log.specs.ExchangeLine

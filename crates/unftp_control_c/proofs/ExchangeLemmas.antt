@@ -1,7 +1,11 @@
 -- The replies of an exchange's line, and why there are none.
-use Rattle.std.proofs.Common.{◌≡◌, List, [], ◌∷◌, ◌++◌, refl, sym, subst}
+use Rattle.std.proofs.Common.{◌≡◌, Bool, Err, Global, List, [], ◌∷◌, ◌++◌, Ok, Result, Vec, ap, false, map, refl, sym, subst, ◌∙◌}
+use Rattle.std.specs.Prelude.{if◌then◌else◌, is_err, is_ok}
+use Rattle.std.proofs.lemmas.List.{map-append}
 use Rattle.unftp_control_defs.specs.Bytes.{Bytes}
 use Rattle.unftp_control_defs.specs.TakingSteps.{AreReplies, TakesReply}
+use Rattle.unftp_control_read.specs.ReplyDecoding.{content}
+use Rattle.unftp_control_read.specs.declared.reply.ReceivedReply.{ReceivedReply}
 use Rattle.unftp_control_log.specs.Exchanges.{Read}
 use Rattle.unftp_control_c.specs.declared.status.Status.{Status}
 use Rattle.unftp_control_c.specs.declared.status.Status.TheVariants.{Malformed, More, OutOfMemory}
@@ -23,6 +27,16 @@ pub one_more : (before : Bytes) {middle after : Bytes} (replies : List Read) {al
 one_more before {middle} {after} replies {all} {reply} are takes is =
     subst (λ all. AreReplies before all after) (sym is)
     (AreReplies-append replies (reply ∷ []) before middle after are (after, takes, refl))
+
+-- the replies, with one more
+pub pushed_reply : {E : Type 0} (old new : Vec ReceivedReply Global) (reply : ReceivedReply)
+    (result : Result (Unit {0}) E)
+    → new.items ≡ (if is_ok result then old.items ++ reply ∷ [] else old.items)
+    → {test : Bool} → test ≡ false → test ≡ is_err result
+    → map content new.items ≡ map content old.items ++ content reply ∷ []
+pushed_reply old new reply (Ok done) is kept value =
+    ap (map content) is ∙ map-append content old.items (reply ∷ [])
+pushed_reply old new reply (Err error) is kept value = absurd (cc)
 
 -- after some replies the bytes are not read either
 pub not_read_after : (bytes rest : Bytes) (replies : List Read) (status : Status)

@@ -2,6 +2,7 @@
 use Rattle.std.specs.Prelude.{ℕ, ◌==◌, ◌&&◌, Bool, not, if◌then◌else◌, Option, None, Some}
 use Rattle.unftp_control_client.specs.Dialogue.{commands_owed}
 use Rattle.unftp_control_client.specs.declared.dialogue.Dialogue.{Dialogue}
+use Rattle.unftp_control_client.specs.declared.order.Order.{Order}
 use Rattle.unftp_control_client.specs.declared.dialogue.To.{To}
 use Rattle.unftp_control_client.specs.declared.dialogue.To.TheVariants.{Greeting, Command, Nothing}
 use Rattle.unftp_control_c.specs.declared.client.Client.{Client}
@@ -18,10 +19,14 @@ dialogue_of client = record {
   agreed = not (client.agreed == 0);
 }
 
+-- with the line that a proxy has taken
+abbrev pub order_of : Client → Order
+order_of client = record { dialogue = dialogue_of client; taken = not (client.taken == 0) }
+
 -- before the first line and the first reply
 abbrev pub new_client : Client
 new_client =
-    record { sent = 0; answered = 0; asked = 0; greeted = 0; asks = 0; agreed = 0 }
+    record { sent = 0; answered = 0; asked = 0; greeted = 0; asks = 0; agreed = 0; taken = 0 }
 
 -- what a reply is to, by its number, and the place of a command
 abbrev pub to_number : To → ℕ

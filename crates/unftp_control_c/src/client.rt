@@ -2,12 +2,13 @@
 ghost use Rattle.std.specs.Prelude.{◌≡◌, ◌≢◌, ◌<◌, ◌-◌, ◌^◌, if◌then◌else◌};
 ghost use Rattle.unftp_control_defs.specs.Lines.{IsLine};
 ghost use Rattle.unftp_control_client.specs.Dialogue.{after_command, after_reply, commands_owed, next_to};
-ghost use Rattle.unftp_control_c.specs.Clients.{dialogue_of, may_begin_tls, place_in, to_number};
+ghost use Rattle.unftp_control_client.specs.Order.{Sends, Takes, after_answer, after_call, after_pass, may_answer, may_take};
+ghost use Rattle.unftp_control_c.specs.Clients.{dialogue_of, may_begin_tls, order_of, place_in, to_number};
 ghost use Rattle.unftp_control_c.specs.Numbers.{status_number};
 ghost use Rattle.unftp_control_c.specs.declared.status.Status.TheVariants.{Done, InvalidArgument, NoLine};
 
 use crate::status::Status;
-use unftp_control_client::{Dialogue, To};
+use unftp_control_client::{Dialogue, Order, To};
 use unftp_control_write::is_line;
 
 /// What a client keeps beside its bytes: `struct unftp_client` of include/unftp_control.h.
@@ -26,13 +27,16 @@ pub struct Client {
     pub asks: u32,
     /// 1 where the last reply was a 234 to that line, else 0.
     pub agreed: u32,
+    /// 1 where a line of a proxy's own client is taken, and neither sent nor answered yet, else 0.
+    pub taken: u32,
 }
 
 impl Client {
     /// What keeps this.
-    fn of(dialogue: Dialogue) -> Client
-        ensures { dialogue_of result ≡ dialogue }
+    fn of(order: Order) -> Client
+        ensures { order_of result ≡ order }
     {
+        let dialogue = order.dialogue;
         Client {
             sent: dialogue.sent,
             answered: dialogue.answered.unwrap_or(0),
@@ -40,6 +44,7 @@ impl Client {
             greeted: u32::from(dialogue.answered.is_some()),
             asks: u32::from(dialogue.asked.is_some()),
             agreed: u32::from(dialogue.agreed),
+            taken: u32::from(order.taken),
         }
     }
 
@@ -62,6 +67,41 @@ impl Client {
             agreed: self.agreed != 0,
         }
     }
+
+    /// The same, with the line that is taken.
+    fn order(&self) -> Order
+        ensures { result ≡ order_of self.now }
+    {
+        Order {
+            dialogue: self.dialogue(),
+            taken: self.taken != 0,
+        }
+    }
+}
+
+/// Takes the next line of a proxy's client: `unftp_client_take` of include/unftp_control.h.
+#[unsafe(no_mangle)]
+pub extern "C" fn unftp_client_take(client: &mut Client) -> u32
+    ensures taken { result ≡ (if may_take (order_of client.old) then 1 else 0) }
+    ensures after { order_of client.new ≡ after_call (order_of client.old) Takes }
+{
+    let mut order = client.order();
+    let taken = order.take();
+    *client = Client::of(order);
+    u32::from(taken)
+}
+
+/// Notes that a proxy answers the line that it has taken: `unftp_client_answer` of
+/// include/unftp_control.h.
+#[unsafe(no_mangle)]
+pub extern "C" fn unftp_client_answer(client: &mut Client, code: u32) -> u32
+    ensures given { result ≡ (if may_answer (order_of client.old) code then 1 else 0) }
+    ensures after { order_of client.new ≡ after_answer (order_of client.old) code }
+{
+    let mut order = client.order();
+    let given = order.answer(code);
+    *client = Client::of(order);
+    u32::from(given)
 }
 
 /// Notes a line that is sent: `unftp_client_line` of include/unftp_control.h.
@@ -75,16 +115,18 @@ pub extern "C" fn unftp_client_line(client: &mut Client, line: &[u8], place: &mu
     ensures is_line { IsLine line.now → client.old.sent < 2 ^ 64 - 1
         → (result ≡ status_number Done) × (place.new ≡ client.old.sent)
         × (dialogue_of client.new ≡ after_command line.now (dialogue_of client.old)) }
+    ensures order { result ≡ status_number Done
+        → order_of client.new ≡ after_call (order_of client.old) (Sends line.now) }
 {
     *place = 0;
     if !is_line(line) {
         return Status::NoLine.number();
     }
-    let mut dialogue = client.dialogue();
-    let Some(sent) = dialogue.add_line(line) else {
+    let mut order = client.order();
+    let Some(sent) = order.send(line) else {
         return Status::InvalidArgument.number();
     };
-    *client = Client::of(dialogue);
+    *client = Client::of(order);
     *place = sent;
     Status::Done.number()
 }
@@ -96,10 +138,11 @@ pub extern "C" fn unftp_client_reply(client: &mut Client, code: u32, place: &mut
     ensures to { result ≡ to_number (next_to (dialogue_of client.old)) }
     ensures place { place.new ≡ place_in (next_to (dialogue_of client.old)) }
     ensures after { dialogue_of client.new ≡ after_reply (dialogue_of client.old) code }
+    ensures order { order_of client.new ≡ after_pass (order_of client.old) code }
 {
-    let mut dialogue = client.dialogue();
-    let to = dialogue.add_code(code);
-    *client = Client::of(dialogue);
+    let mut order = client.order();
+    let to = order.pass(code);
+    *client = Client::of(order);
     let (number, sent) = match to {
         To::Greeting => (0, 0),
         To::Command(sent) => (1, sent),

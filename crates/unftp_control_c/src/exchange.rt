@@ -4,8 +4,7 @@ ghost use Rattle.unftp_control_defs.specs.FtpCommand.{unless_empty};
 ghost use Rattle.unftp_control_defs.specs.TakingSteps.{AreReplies, TakesReply};
 ghost use Rattle.unftp_control_log.specs.LogLine.{IsPrintable};
 ghost use Rattle.unftp_control_read.specs.ReplyDecoding.{content};
-ghost use Rattle.unftp_control_log.specs.Exchanges.{Read};
-ghost use Rattle.unftp_control_log.specs.ToCome.{held_text};
+ghost use Rattle.unftp_control_log.specs.Exchanges.{Read, held_text};
 ghost use Rattle.unftp_control_c.specs.Areas.{Made, made, written};
 ghost use Rattle.unftp_control_c.specs.ExchangeLines.{ArePrintable, IsExchangeLine, IsLeftUnread, IsNotRead, shown_exchange};
 

@@ -1,7 +1,7 @@
 //! What the calls promise one after the other, and what is given says: each the contract of a
 //! function that does nothing.
-ghost use Rattle.std.specs.Prelude.{◌≡◌, ◌≢◌, ◌<◌, ◌≤◌, ◌+◌, ◌*◌, ◌++◌, ◌⊎◌, ℕ, List, [], ◌∷◌, Ok, Err, Option, None, Some, true, false, IsTrue, map, length, slice_index};
-ghost use Rattle.std.specs.List.{AllByRecursion, count_by};
+ghost use Rattle.std.specs.Prelude.{◌≡◌, ◌≢◌, ◌<◌, ◌≤◌, ◌+◌, ◌*◌, ◌++◌, ◌⊎◌, ℕ, suc, List, [], ◌∷◌, Ok, Err, Option, None, Some, true, false, IsTrue, map, length, slice_index};
+ghost use Rattle.std.specs.List.{AllByRecursion, count_by, filter};
 ghost use Rattle.unftp_control_defs.specs.Bytes.{Bytes, LF, Lacks};
 ghost use Rattle.unftp_control_defs.specs.Canonical.{HasLine};
 ghost use Rattle.unftp_control_defs.specs.Events.{Command, Fault, FtpEvent, Refused, event_for, events};
@@ -9,30 +9,30 @@ ghost use Rattle.unftp_control_defs.specs.FtpCommand.{FtpCommand};
 ghost use Rattle.unftp_control_defs.specs.Said.{HasTypedFields};
 ghost use Rattle.unftp_control_defs.specs.Lines.{IsLine};
 ghost use Rattle.unftp_control_codecs.specs.LineFeed.{is_line_feed, line_feed_from};
-ghost use Rattle.unftp_control_defs.specs.Turns.{is_preliminary};
 ghost use Rattle.unftp_control_commands.specs.ReplyTexts.{quoted};
-ghost use Rattle.unftp_control_client.specs.Dialogue.{after_command, after_reply, commands_owed, next_to};
-ghost use Rattle.unftp_control_client.specs.ForwardingSteps.{Answered, AreForwardingSteps, ForwardingStep, IsForwardingStep, Passed, replies_given};
-ghost use Rattle.unftp_control_client.specs.Steps.{AreDialogueSteps, AreExchanges, ClientStep, EndsInAgreement, ReplyTo, SentLine, Took, replies_owed};
-ghost use Rattle.unftp_control_client.specs.declared.dialogue.To.TheVariants.{Greeting, Nothing};
+ghost use Rattle.unftp_control_client.specs.Dialogue.{after_command, after_reply, next_to};
+ghost use Rattle.unftp_control_client.specs.Order.{IsToTaken, OrderCall, after_calls, finals_owed, given_by, lines_taken};
+ghost use Rattle.unftp_control_client.specs.Steps.{AreDialogueSteps, AreExchanges, ClientStep, EndsInAgreement, ReplyTo, SentLine, Took, is_final, replies_owed};
+ghost use Rattle.unftp_control_client.specs.declared.dialogue.To.TheVariants.{Greeting};
 ghost use Rattle.unftp_control_log.specs.Known.{known};
 ghost use Rattle.unftp_control_log.specs.LogLine.{IsPrintable, hides_part, logged};
-ghost use Rattle.unftp_control_login.specs.Gate.{decided, stage_after};
-ghost use Rattle.unftp_control_login.specs.Login.{Accounts, IsLoggedIn, is_login, needs_login};
+ghost use Rattle.unftp_control_login.specs.Gate.{decided, decision_at, nobody, stage_after};
+ghost use Rattle.unftp_control_login.specs.Login.{Accounts, IsLoggedIn, is_login, login_step, needs_login};
+ghost use Rattle.unftp_control_login.specs.declared.stage.LoginStep.TheVariants.{PassOn};
+ghost use Rattle.unftp_control_login.specs.declared.stage.Progress.{Progress};
+ghost use Rattle.unftp_control_login.specs.declared.stage.Stage.{Stage};
 ghost use Rattle.unftp_control_c.specs.Addresses.{IsWrittenBy, form_for};
 ghost use Rattle.unftp_control_c.specs.Areas.{Made, filled, written};
-ghost use Rattle.unftp_control_c.specs.Clients.{dialogue_of, may_begin_tls, new_client, place_in, to_number};
+ghost use Rattle.unftp_control_c.specs.Clients.{dialogue_of, may_begin_tls, new_client, order_of, place_in, to_number};
 ghost use Rattle.unftp_control_c.specs.ExchangeLines.{IsExchangeLine};
 ghost use Rattle.unftp_control_c.specs.LogLines.{IsLogLine, numbered_hides, numbered_log_line};
-ghost use Rattle.unftp_control_c.specs.Logins.{Kept, decision_at, kept_after, kept_after_all, login_step, nobody, progress_of, stage_number, stage_of};
+ghost use Rattle.unftp_control_c.specs.Logins.{KeepsSame, event_role, kept_after, kept_after_all, progress_of, stage_number};
 ghost use Rattle.unftp_control_c.specs.Next.{Call, Given, Leaves, Left, given_for, line_limit, needed_room, scans};
 ghost use Rattle.unftp_control_c.specs.Numbers.{status_number};
 ghost use Rattle.unftp_control_c.specs.Parameters.{list_path_bytes, parameter_bytes};
 ghost use Rattle.unftp_control_c.specs.Replies.{IsFoundText, reply_bytes};
 ghost use Rattle.unftp_control_c.specs.Taking.{AreCallerSteps, Caller, CallerStep, IsNumberOf, after_call, all_given, caller_call, gives_none, input_of, new_caller, scanned_by, unscanned};
 ghost use Rattle.unftp_control_c.specs.declared.client.Client.{Client as RustClient};
-ghost use Rattle.unftp_control_c.specs.declared.login.Progress.{Progress};
-ghost use Rattle.unftp_control_c.specs.declared.login.LoginStep.TheVariants.{PassOn};
 ghost use Rattle.unftp_control_c.specs.declared.status.Status.TheVariants.{LineTooLong, More, NoRoom, OutOfMemory};
 
 /// Whatever a caller receives, and whenever it calls `unftp_next`, with whatever areas: its calls
@@ -215,42 +215,45 @@ pub fn client_calls_are_a_dialogue()
         → EndsInAgreement steps × (pending ≡ 0) }
 {}
 
-/// A proxy that notes each line that it forwards and each reply that it passes on, ends the session
-/// at a reply to nothing, and answers a line itself only where `greeted` is not 0 and
-/// `unftp_client_owed` is 0: all that its client gets is the greeting and one exchange for each
-/// line, in order, whoever answers it.
-pub fn answers_are_exchanges()
-    ensures answer { (client : RustClient) (reply : ℕ × List Bytes)
-        → client.greeted ≢ 0 → commands_owed (dialogue_of client) ≡ 0
-        → is_preliminary reply.0 ≡ false
-        → IsForwardingStep (dialogue_of client) (Answered reply) (dialogue_of client) }
-    ensures pass { (before after : RustClient) (taken : ReplyTo)
-        → taken.to ≡ next_to (dialogue_of before) → to_number taken.to ≢ to_number Nothing
-        → dialogue_of after ≡ after_reply (dialogue_of before) taken.reply.0
-        → IsForwardingStep (dialogue_of before) (Passed taken) (dialogue_of after) }
-    ensures exchanges { (steps : List ForwardingStep) (after : RustClient)
-        → AreForwardingSteps (dialogue_of new_client) steps (dialogue_of after)
-        → AreExchanges Greeting (replies_given 0 0 steps) }
+/// Whatever calls a proxy makes, in whatever order, those that are refused too: where it gives its
+/// client each reply that `unftp_client_reply` says is owed and each answer for which
+/// `unftp_client_answer` returned 1, all that this gets is the greeting and one exchange for each
+/// line that was taken, in order, whoever answers it.
+pub fn calls_keep_the_order()
+    ensures exchanges { (calls : List OrderCall)
+        → AreExchanges Greeting (given_by 0 (order_of new_client) calls) }
+    // No reply is to a line that was not taken before,
+    ensures taken { (calls : List OrderCall)
+        → AllByRecursion (IsToTaken (lines_taken (order_of new_client) calls))
+        (given_by 0 (order_of new_client) calls) }
+    // and the greeting and each line that was taken have a final one, or are owed it.
+    ensures complete { (calls : List OrderCall)
+        → length (filter is_final (given_by 0 (order_of new_client) calls))
+        + finals_owed (after_calls (order_of new_client) calls)
+        ≡ suc (lines_taken (order_of new_client) calls) }
 {}
 
 /// A server that does at each event what `unftp_login_event` says, keeps the name of each USER, and
 /// asks the accounts where it is to, does what a login gate does (RFC 959, section 4.1.1).
 pub fn logins_are_gated()
-    ensures decided { (accepts : Accounts) (kept : Kept) (event : FtpEvent)
-        → decided accepts (stage_of kept) event
-        ≡ decision_at (login_step kept.progress (given_for event).number) accepts kept.name event }
-    ensures stage { (accepts : Accounts) (kept : Kept) (event : FtpEvent)
-        → stage_of (kept_after accepts kept event) ≡ stage_after accepts (stage_of kept) event }
+    ensures decided { (accepts : Accounts) (kept : Stage) (event : FtpEvent)
+        → decided accepts kept event ≡ decision_at
+        (login_step kept.progress (event_role (given_for event).number)) accepts kept.name event }
+    ensures stage { (accepts : Accounts) (kept : Stage) (event : FtpEvent)
+        → kept_after accepts kept event ≡ stage_after accepts kept event }
+    // A name that no password is to follow is not read, so that it may be kept longer.
+    ensures names { (accepts : Accounts) (kept other : Stage) (event : FtpEvent)
+        → KeepsSame kept other → (decided accepts kept event ≡ decided accepts other event)
+        × KeepsSame (kept_after accepts kept event) (kept_after accepts other event) }
     // An event that needs a login is passed on only after one,
     ensures members { (accepts : Accounts) (before : List FtpEvent) (event : FtpEvent)
-        → IsTrue (needs_login event)
-        → login_step (kept_after_all accepts nobody before).progress (given_for event).number
-        ≡ PassOn → IsLoggedIn accepts before }
+        → IsTrue (needs_login event) → login_step (kept_after_all accepts nobody before).progress
+        (event_role (given_for event).number) ≡ PassOn → IsLoggedIn accepts before }
     // and after one each event is, but those of a login.
     ensures served { (accepts : Accounts) (before : List FtpEvent) (event : FtpEvent)
         → IsLoggedIn accepts before → is_login event ≡ false
-        → login_step (kept_after_all accepts nobody before).progress (given_for event).number
-        ≡ PassOn }
+        → login_step (kept_after_all accepts nobody before).progress
+        (event_role (given_for event).number) ≡ PassOn }
     // A number that a call leaves is read as what was left, and 0 is nobody.
     ensures numbers { (progress : Progress) → progress_of (stage_number progress) ≡ progress }
     ensures zero { progress_of 0 ≡ nobody.progress }

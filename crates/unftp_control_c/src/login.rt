@@ -1,12 +1,13 @@
 //! A login: which events a server passes on, and which it answers itself.
 ghost use Rattle.std.specs.Prelude.{◌≡◌, ◌==◌, ◌≢◌, if◌then◌else◌};
-ghost use Rattle.unftp_control_c.specs.Logins.{after_event, is_open, is_refused, login_step, progress_of, stage_number, step_number};
+ghost use Rattle.unftp_control_login.specs.Login.{login_after, login_step};
+ghost use Rattle.unftp_control_login.specs.declared.stage.Progress.TheVariants.{Asked};
+ghost use Rattle.unftp_control_c.specs.Logins.{event_role, is_refused, progress_of, stage_number, step_number};
 ghost use Rattle.unftp_control_c.specs.Numbers.{status_number};
-ghost use Rattle.unftp_control_c.specs.declared.login.Progress.TheVariants.{Asked};
 ghost use Rattle.unftp_control_c.specs.declared.status.Status.TheVariants.{Done, InvalidArgument};
 
 use crate::status::Status;
-use unftp_control_defs::verb::Verb;
+use unftp_control_login::{Progress, Role};
 
 /// What a server keeps of a login: `struct unftp_login` of include/unftp_control.h.
 #[repr(C)]
@@ -16,133 +17,51 @@ pub struct Login {
     pub stage: u32,
 }
 
-/// How far a login has come.
-#[derive(Clone, Copy)]
-pub enum Progress {
-    /// No name was given, or the login was refused or flushed.
-    NoName = 0,
-    /// A name was given.
-    Named = 1,
-    /// The client is logged in.
-    LoggedIn = 2,
-    /// The accounts are asked about a password.
-    Asked = 3,
-}
-
-/// What a server does with an event.
-#[derive(Clone, Copy)]
-pub enum LoginStep {
-    /// It answers the event as it would without a login.
-    PassOn = 0,
-    /// It keeps the name, and asks for the password.
-    NeedPassword = 1,
-    /// It asks the accounts whether the password is that of the name.
-    AskAccounts = 2,
-    /// It asks for a name first.
-    NeedName = 3,
-    /// It asks for a login first.
-    NeedLogin = 4,
-}
-
-impl Progress {
-    /// That of a number.
-    fn of(stage: u32) -> Progress
-        ensures { result ≡ progress_of stage }
-    {
-        match stage {
-            1 => Progress::Named,
-            2 => Progress::LoggedIn,
-            3 => Progress::Asked,
-            _ => Progress::NoName,
-        }
-    }
-
-    /// Its number.
-    fn number(self) -> u32
-        ensures { result ≡ stage_number self }
-    {
-        self as u32
-    }
-
-    /// What is done with the event of a number.
-    fn step(self, event: u32) -> LoginStep
-        ensures { result ≡ login_step self event }
-    {
-        if event == Verb::User.number() {
-            return LoginStep::NeedPassword;
-        }
-        if event == Verb::Pass.number() {
-            return match self {
-                Progress::Named => LoginStep::AskAccounts,
-                _ => LoginStep::NeedName,
-            };
-        }
-        match self {
-            Progress::LoggedIn => LoginStep::PassOn,
-            _ if is_open(event) => LoginStep::PassOn,
-            _ => LoginStep::NeedLogin,
-        }
-    }
-
-    /// How far it has come after the event of a number.
-    fn after(self, event: u32) -> Progress
-        ensures { result ≡ after_event self event }
-    {
-        if event == Verb::User.number() {
-            return Progress::Named;
-        }
-        if event == Verb::Auth.number() {
-            return Progress::NoName;
-        }
-        match self {
-            Progress::Named if event == Verb::Pass.number() => Progress::Asked,
-            Progress::Asked => Progress::NoName,
-            progress => progress,
-        }
-    }
-}
-
-impl LoginStep {
-    /// Its number.
-    fn number(self) -> u32
-        ensures { result ≡ step_number self }
-    {
-        self as u32
-    }
-}
-
-/// Whether an event of this number needs no login.
-fn is_open(event: u32) -> bool
-    ensures { result ≡ is_open event }
+/// How far a login has come, by its number.
+fn progress_of(stage: u32) -> Progress
+    ensures { result ≡ progress_of stage }
 {
-    event == Verb::Quit.number()
-        || event == Verb::Auth.number()
-        || event == Verb::Pbsz.number()
-        || event == Verb::Prot.number()
-        || event == Verb::Feat.number()
-        || event == Verb::Help.number()
-        || event == Verb::Noop.number()
-        || event == Verb::Syst.number()
-        || is_refused(event)
+    match stage {
+        1 => Progress::Named,
+        2 => Progress::LoggedIn,
+        3 => Progress::Asked,
+        _ => Progress::NoName,
+    }
+}
+
+/// What an event is to a login, by its number.
+fn event_role(event: u32) -> Role
+    ensures { result ≡ event_role event }
+{
+    if is_refused(event) {
+        return Role::Open;
+    }
+    Role::of(event)
 }
 
 /// Whether it is the number of a line that is refused, or for which memory ran out.
 fn is_refused(event: u32) -> bool
     ensures { result ≡ is_refused event }
 {
-    (Status::InvalidCommand.number()..=Status::OutOfMemory.number()).contains(&event)
+    event == Status::InvalidCommand.number()
+        || event == Status::InvalidUtf8.number()
+        || event == Status::InvalidEol.number()
+        || event == Status::LineTooLong.number()
+        || event == Status::OutOfMemory.number()
 }
 
 /// What is done with an event: `unftp_login_event` of include/unftp_control.h.
 #[unsafe(no_mangle)]
 pub extern "C" fn unftp_login_event(login: &mut Login, event: u32) -> u32
-    ensures step { result ≡ step_number (login_step (progress_of login.old.stage) event) }
+    ensures step { result
+        ≡ step_number (login_step (progress_of login.old.stage) (event_role event)) }
     ensures stage { login.new.stage
-        ≡ stage_number (after_event (progress_of login.old.stage) event) }
+        ≡ stage_number (login_after (progress_of login.old.stage) (event_role event)) }
 {
-    let progress = Progress::of(login.stage);
-    login.stage = progress.after(event).number();
-    progress.step(event).number()
+    let progress = progress_of(login.stage);
+    let role = event_role(event);
+    login.stage = progress.after(role) as u32;
+    progress.step(role) as u32
 }
 
 /// What the accounts have answered: `unftp_login_answer` of include/unftp_control.h.
@@ -153,13 +72,10 @@ pub extern "C" fn unftp_login_answer(login: &mut Login, accepted: u32) -> u32
     ensures not_asked { login.old.stage ≢ stage_number Asked
         → (result ≡ status_number InvalidArgument) × (login.new ≡ login.old) }
 {
-    if login.stage != Progress::Asked.number() {
+    let progress = progress_of(login.stage);
+    if !matches!(progress, Progress::Asked) {
         return Status::InvalidArgument.number();
     }
-    login.stage = if accepted == 0 {
-        Progress::NoName.number()
-    } else {
-        Progress::LoggedIn.number()
-    };
+    login.stage = progress.answered(accepted != 0) as u32;
     Status::Done.number()
 }

@@ -22,15 +22,15 @@ IsBetween own (Some answered) sent = answered ≤ sent
 abbrev pub client_exchange : ℕ → Option ℕ → To
 client_exchange own answered = among_all own (open_exchange answered)
 
-abbrev finals : List ReplyTo → ℕ
+abbrev pub finals : List ReplyTo → ℕ
 finals replies = length (filter is_final replies)
 
-between_line : (own : ℕ) (answered : Option ℕ) (sent : ℕ) → IsBetween own answered sent
+pub between_line : (own : ℕ) (answered : Option ℕ) (sent : ℕ) → IsBetween own answered sent
     → IsBetween own answered (suc sent)
 between_line own None sent is = is
 between_line own (Some answered) sent is = omega (arith, is)
 
-between_more : (own : ℕ) (answered : Option ℕ) (sent : ℕ) → IsGreeted answered
+pub between_more : (own : ℕ) (answered : Option ℕ) (sent : ℕ) → IsGreeted answered
     → IsBetween own answered sent → IsBetween (suc own) answered sent
 between_more own None sent greeted is = absurd greeted
 between_more own (Some answered) sent greeted is = is
@@ -83,10 +83,10 @@ module _ (own : ℕ) (replies : List ReplyTo) (reply : ℕ × List Bytes) where
 
 module _ (own : ℕ) (replies : List ReplyTo) (reply : ℕ × List Bytes)
     (final : is_preliminary reply.0 ≡ false) where
-  abbrev with_answer : ℕ → List ReplyTo
+  abbrev pub with_answer : ℕ → List ReplyTo
   with_answer sent = record { to = Command (own + sent); reply = reply } ∷ replies
 
-  exchanges-answered : (answered : Option ℕ) (sent : ℕ) → IsGreeted answered
+  pub exchanges-answered : (answered : Option ℕ) (sent : ℕ) → IsGreeted answered
       → sent - unwrap_or answered 0 ≡ 0 → IsBetween own answered sent
       → AreExchanges (client_exchange (suc own) answered) replies
       → AreExchanges (client_exchange own answered) (with_answer sent)
@@ -98,7 +98,7 @@ module _ (own : ℕ) (replies : List ReplyTo) (reply : ℕ × List Bytes)
         rw final (subst (λ place. AreExchanges (Command place) replies) next h),
       )
 
-  complete-answered : (sent : ℕ) → finals (with_answer sent) ≡ suc (finals replies)
+  pub complete-answered : (sent : ℕ) → finals (with_answer sent) ≡ suc (finals replies)
   complete-answered sent = rw final refl
 
 -- ---- all steps
@@ -112,7 +112,7 @@ module _ (own : ℕ) (before next : Dialogue) (taken : ReplyTo)
   abbrev begins : Bool
   begins = preliminary before next taken step
 
-  now_between : IsBetween own before.answered before.sent
+  pub now_between : IsBetween own before.answered before.sent
       → IsBetween own next.answered next.sent
   now_between is = subst (λ sent. IsBetween own next.answered sent)
       (sym (now_sent before next taken step))
@@ -123,7 +123,7 @@ module _ (own : ℕ) (before next : Dialogue) (taken : ReplyTo)
   is_some : is_something (owed_where before.answered was) ≡ true
   is_some = ap is_something (sym (is_to before next taken step)) ∙ some
 
-  passed-exchanges : (replies : List ReplyTo) → IsBetween own before.answered before.sent
+  pub passed-exchanges : (replies : List ReplyTo) → IsBetween own before.answered before.sent
       → AreExchanges (client_exchange own next.answered) replies
       → AreExchanges (client_exchange own before.answered)
       (record { to = among_all own taken.to; reply = taken.reply } ∷ replies)
@@ -135,7 +135,7 @@ module _ (own : ℕ) (before next : Dialogue) (taken : ReplyTo)
       is (subst (λ answered. AreExchanges (client_exchange own answered) replies)
       (now_answered before next taken step) h))
 
-  passed-complete : (replies : List ReplyTo)
+  pub passed-complete : (replies : List ReplyTo)
       → complete next.answered + finals replies ≡ complete before.answered
       + finals (record { to = among_all own taken.to; reply = taken.reply } ∷ replies)
   passed-complete replies =

@@ -1,3 +1,4 @@
 pub mod ClientStepLemmas
 pub mod AgreementLemmas
 pub mod ForwardingLemmas
+pub mod OrderLemmas

@@ -3,3 +3,4 @@ pub mod Dialogue
 pub mod Exchange
 pub mod Steps
 pub mod ForwardingSteps
+pub mod Order

@@ -1,5 +1,5 @@
 //! How far the dialogue with a server has come.
-ghost use Rattle.std.specs.Prelude.{◌≡◌, ◌↔◌, ◌-◌, ◌^◌, IsTrue, MatchOption};
+ghost use Rattle.std.specs.Prelude.{◌≡◌, ◌↔◌, ◌<◌, ◌-◌, ◌^◌, IfSome, IsTrue, MatchOption};
 ghost use Rattle.std.specs.Str.{str_eq_ignore_ascii_case};
 ghost use Rattle.unftp_control_defs.specs.Turns.{is_preliminary};
 ghost use Rattle.unftp_control_client.specs.Dialogue.{after_command, after_reply, asks_for_tls, new_dialogue, awaits_tls, commands_owed, next_to, owes_reply};
@@ -55,7 +55,7 @@ pub struct Dialogue {
 }
 
 /// Whether another reply to the same command follows one with this code (RFC 959, section 4.2.1).
-fn is_preliminary(code: u32) -> bool
+pub(crate) fn is_preliminary(code: u32) -> bool
     ensures { result ≡ is_preliminary code }
 {
     (100..200).contains(&code)
@@ -123,9 +123,10 @@ impl Dialogue {
     /// Notes that the line of a command is sent, and returns the command's place. Where 64 bits
     /// don't count it, it returns `None`, and nothing changes.
     pub fn add_line(&mut self, line: &[u8]) -> Option<u64>
-        ensures { MatchOption result
+        ensures place { MatchOption result
             ((self.new ≡ self.old) × (self.old.sent ≡ 2 ^ 64 - 1))
             (λ place. (self.new ≡ after_command line.now self.old) × (place ≡ self.old.sent)) }
+        ensures counted { IfSome result (λ place. place < 2 ^ 64 - 1) }
     {
         let place = self.sent;
         self.sent = place.checked_add(1)?;

@@ -1,6 +1,6 @@
 //! What holds of each run of a client, each the contract of a function that does nothing.
-ghost use Rattle.std.specs.Prelude.{◌≡◌, ◌<◌, ◌≤◌, ℕ, suc, Option, None, Some, Ok, Err, List, [], ◌∷◌, ◌++◌, length, IsTrue};
-ghost use Rattle.std.specs.List.{concat, filter};
+ghost use Rattle.std.specs.Prelude.{◌≡◌, ◌<◌, ◌≤◌, ℕ, suc, Option, None, Some, Ok, Err, List, [], ◌∷◌, ◌++◌, length, IsTrue, ◌+◌};
+ghost use Rattle.std.specs.List.{AllByRecursion, concat, filter};
 ghost use Rattle.unftp_control_defs.specs.Bytes.{Bytes};
 ghost use Rattle.unftp_control_defs.specs.Input.{InputState};
 ghost use Rattle.unftp_control_defs.specs.TakingSteps.{AreTakingSteps, TakesReply};
@@ -11,6 +11,7 @@ ghost use Rattle.unftp_control_read.specs.declared.errors.ReceiveError.{ReceiveE
 ghost use Rattle.unftp_control_client.specs.Dialogue.{after_command, new_dialogue, commands_owed};
 ghost use Rattle.unftp_control_client.specs.Exchange.{IsNext, new_client};
 ghost use Rattle.unftp_control_client.specs.ForwardingSteps.{AreForwardingSteps, ForwardingStep, IsGreeted, is_line, replies_given};
+ghost use Rattle.unftp_control_client.specs.Order.{IsToTaken, OrderCall, after_calls, finals_owed, given_by, lines_taken, new_order};
 ghost use Rattle.unftp_control_client.specs.Steps.{AreDialogueSteps, AreExchanges, AreClientSteps, ClientStep, EndsInAgreement, Received, SentLine, Took, lines_sent, decoder_steps, is_final, replies_owed, reply_to};
 ghost use Rattle.unftp_control_client.specs.declared.Client.{Client as RustClient};
 ghost use Rattle.unftp_control_client.specs.declared.dialogue.ClientReply.{ClientReply as RustReply};
@@ -129,4 +130,19 @@ pub fn answers_are_exchanges()
         → IsGreeted dialogue.answered → commands_owed dialogue ≡ 0
         → length (filter is_final (replies_given 0 0 steps))
         ≡ suc (length (filter is_line steps)) }
+{}
+
+/// Whatever calls a proxy makes, in whatever order, those that are refused too, and whatever lines
+/// and replies it makes them with: all that its client gets is the greeting and one exchange for
+/// each line that was taken, in order, whoever answers it.
+pub fn calls_keep_the_order()
+    ensures exchanges { (calls : List OrderCall)
+        → AreExchanges Greeting (given_by 0 new_order calls) }
+    // No reply is to a line that was not taken before,
+    ensures taken { (calls : List OrderCall)
+        → AllByRecursion (IsToTaken (lines_taken new_order calls)) (given_by 0 new_order calls) }
+    // and the greeting and each line that was taken have a final one, or are owed it.
+    ensures complete { (calls : List OrderCall)
+        → length (filter is_final (given_by 0 new_order calls))
+        + finals_owed (after_calls new_order calls) ≡ suc (lines_taken new_order calls) }
 {}

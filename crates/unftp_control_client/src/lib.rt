@@ -21,9 +21,11 @@ mod dialogue;
 mod errors;
 pub mod examples;
 pub mod laws;
+mod order;
 
 pub use crate::dialogue::{ClientReply, Dialogue, To, same_client_replies};
 pub use crate::errors::SendError;
+pub use crate::order::Order;
 use std::alloc::{AllocError, Global};
 use std::io::Read;
 use unftp_control_defs::input::Input;

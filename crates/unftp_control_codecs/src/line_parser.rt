@@ -13,4 +13,4 @@ pub use unftp_control_message::reply::error::{
     ParseError, ParseErrorKind, Result, same_parse_errors,
 };
 pub use value::parameter_value;
-pub use verb::{keeps_parameter, kind_keeps};
+pub use verb::kind_keeps;

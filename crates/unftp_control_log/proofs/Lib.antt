@@ -4,12 +4,5 @@ pub mod PrintableLemmas
 pub mod PartsLemmas
 pub mod WordsLemmas
 pub mod HiddenLemmas
-pub mod CutLemmas
-pub mod SentLemmas
-pub mod TurnLemmas
-pub mod RecordLemmas
-pub mod LawLemmas
-pub mod SameLemmas
 pub mod TextLemmas
-pub mod BrokenLemmas
 pub mod RoomLemmas

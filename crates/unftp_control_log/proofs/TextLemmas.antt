@@ -1,23 +1,15 @@
 -- Each byte of the text of an exchange is printable.
-use Rattle.std.proofs.Common.{◌<◌, ◌+◌, ◌/◌, ◌%◌, nat_lt, ◌==◌, ℕ, zero, suc, false, List, [], ◌∷◌, ◌++◌, Option, None, Some, codes, map, arith, mod-lt, subst, sym, ◌∙◌}
+use Rattle.std.proofs.Common.{◌<◌, ◌+◌, ◌/◌, ◌%◌, nat_lt, ◌==◌, ℕ, zero, suc, false, List, [], ◌∷◌, ◌++◌, Option, None, Some, codes, arith, mod-lt}
 use Rattle.std.specs.Prelude.{decimal, flat_map}
 use Rattle.std.specs.Fmt.{digits, digits_onto, digit_glyph}
-use Rattle.std.specs.List.{AllByRecursion}
 use Rattle.std.specs.Option.{IfSome}
 use Rattle.std.proofs.lemmas.Bool.{cond_both}
 use Rattle.unftp_control_defs.specs.Bytes.{Bytes, SP}
-use Rattle.unftp_control_defs.specs.Events.{event_for}
-use Rattle.unftp_control_defs.specs.Lines.{lines_of}
 use Rattle.unftp_control_defs.proofs.ExchangeLemmas.{all-append}
-use Rattle.unftp_control_log.specs.LogLine.{IsPrintable, logged, shown, unless_too_long}
-use Rattle.unftp_control_log.proofs.PrintableLemmas.{ArePrintable, log_line_prints, shown_prints}
+use Rattle.unftp_control_log.specs.LogLine.{IsPrintable, shown}
+use Rattle.unftp_control_log.proofs.PrintableLemmas.{ArePrintable, shown_prints}
 use Rattle.unftp_control_log.specs.ExchangeLine.{exchange_line, further_line, further_reply, line_text, lines_text, replies_text, reply_text}
 use Rattle.unftp_control_log.specs.Exchanges.{Entry, Read}
-use Rattle.unftp_control_log.specs.Recording.{IsNew, IsRecorded, Passed}
-use Rattle.unftp_control_log.specs.ToCome.{lines_to_come}
-use Rattle.unftp_control_log.specs.declared.recorder.Limits.{Limits}
-use Rattle.unftp_control_log.specs.declared.recorder.Recorder.{Recorder}
-use Rattle.unftp_control_log.proofs.LawLemmas.{mapped_first, new_lines_are}
 
 joined : (text more : Bytes) → ArePrintable text → ArePrintable more → ArePrintable (text ++ more)
 joined text more first second = all-append IsPrintable text more first second
@@ -98,27 +90,3 @@ exchange_prints entry all =
     joined (line_text entry.line) (codes "->" ++ replies_text entry.replies)
     (line_prints entry.line all)
     ((omega arith, omega arith), ((omega arith, omega arith), replies_print entry.replies))
-
-each_prints : (recorded : List Entry)
-    → AllByRecursion (λ entry. IfSome entry.line ArePrintable) recorded
-    → AllByRecursion (λ entry. ArePrintable (exchange_line entry)) recorded
-each_prints [] all = tt
-each_prints (entry ∷ recorded) all = (exchange_prints entry all.0, each_prints recorded all.1)
-
-logged_print : (limit : Option ℕ) (lines : List Bytes)
-    → AllByRecursion (λ line. IfSome line ArePrintable)
-    (map (λ line. Some (logged limit line)) lines)
-logged_print limit [] = tt
-logged_print limit (line ∷ lines) =
-    (log_line_prints (event_for limit line) (unless_too_long limit line), logged_print limit lines)
-
--- and those that are recorded
-pub recorded_print : {limits : Limits} {recorder later : Recorder} {passed : Passed}
-    → IsNew limits recorder → IsRecorded recorder passed later
-    → AllByRecursion (λ entry. ArePrintable (exchange_line entry)) passed.recorded
-recorded_print {limits} {recorder} {later} {passed} new is =
-    each_prints passed.recorded (mapped_first (λ line. IfSome line ArePrintable)
-    (λ entry. entry.line) passed.recorded (lines_to_come later.sent [])
-    (subst (AllByRecursion (λ line. IfSome line ArePrintable))
-    (sym (new_lines_are new is) ∙ is.lines [])
-    (tt, logged_print (Some limits.line) (lines_of passed.sent))))

@@ -3,6 +3,4 @@ pub mod LogLine
 pub mod Known
 pub mod Meaning
 pub mod Exchanges
-pub mod ToCome
-pub mod Recording
 pub mod ExchangeLine

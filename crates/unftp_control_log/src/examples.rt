@@ -1,7 +1,7 @@
-//! Log lines and exchanges worked out by hand.
+//! Log lines and lines of exchanges, worked out by hand.
 #![tactic(auto, unfolding(unftp_control_defs::proofs::Computing::at_bytes))]
 
-ghost use Rattle.std.specs.Prelude.{◌≡◌, [], ◌∷◌, ◌++◌, true, false, None, Some, codes, Err, length};
+ghost use Rattle.std.specs.Prelude.{◌≡◌, [], ◌∷◌, ◌++◌, true, false, None, Some, codes};
 ghost use Rattle.unftp_control_defs.specs.Events.{Command, InvalidCommand as InvalidCommandKind, NoSource, Parse, Refused, UnknownCommand, line_too_long, refusal_fault};
 ghost use Rattle.unftp_control_defs.specs.FtpCommand.{Chosen, Feat, InvalidCommand, InvalidEol, Md5, Noop, Number, Other, Pass, Site, Text, User, said};
 ghost use Rattle.unftp_control_defs.specs.declared.parameters.AuthParam.TheVariants.{Tls};
@@ -10,18 +10,7 @@ ghost use Rattle.unftp_control_defs.specs.declared.verb.Verb.TheVariants.{Acct a
 ghost use Rattle.unftp_control_defs.specs.Texts.{kind_reason};
 ghost use Rattle.unftp_control_log.specs.Known.{fault_in, known, known_value, listed_subcommand, shows_parameter, subcommand_by};
 ghost use Rattle.unftp_control_log.specs.LogLine.{IsPrintable, IsShownPlain, RefusedLine, Subcommand, Verb, hides_after, hides_parameter, hides_part, is_listed, listed_verb, logged, parameter_by, reason, shown, shown_argument, shown_parameter, shown_value, shows_after, shows_arguments, unless_too_long, visible, visible_said, visible_text, visible_value, visible_verb};
-ghost use Rattle.std.specs.declared.alloc.Global.{Global as RustGlobal};
-ghost use Rattle.unftp_control_defs.specs.Bytes.{Bytes};
-ghost use Rattle.unftp_control_read.specs.ReplyDecoding.{PendingReplies};
-ghost use Rattle.unftp_control_read.specs.declared.errors.NextReplyError.{NextReplyError as RustError};
-ghost use Rattle.unftp_control_serve.specs.Decoder.{no_bytes, pushed};
 ghost use Rattle.unftp_control_log.specs.ExchangeLine.{exchange_line, lines_text, replies_text, reply_text};
-ghost use Rattle.unftp_control_log.specs.Exchanges.{Entry, IsWholeExchange, all_asked, complete_exchanges, entries, log_lines, open_after, open_part};
-ghost use Rattle.unftp_control_log.specs.Recording.{IsBroken, IsNew, IsRecorded, IsUnanswered, IsWaiting, MeansError, TakesUnanswered, joined, one_entry, sent_piece};
-ghost use Rattle.unftp_control_log.specs.ToCome.{AreRead, HasNext, HasNoLine, HasReplyPart, exchanges_from, exchanges_to_come, greeting_to_come, lines_to_come, new_lines, replies_so_far};
-ghost use Rattle.unftp_control_log.specs.declared.recorder.Limits.{Limits as RustLimits};
-ghost use Rattle.unftp_control_log.specs.declared.recorder.Recorder.{Recorder as RustRecorder};
-ghost use Rattle.unftp_control_read.specs.declared.errors.NextReplyError.TheVariants as NextReplyError;
 
 /// Printable are a space, a tilde and what is between them; all else is escaped, and so are quotes
 /// and the backslash.
@@ -208,42 +197,6 @@ pub fn lines_are_known()
     ensures long_lines { known (Some 1) (codes "RETR a\r\n") ≡ known (Some 1) (codes "b\r\n") }
 {}
 
-/// The greeting comes first, and then each complete line, as a log shows it.
-pub fn lines_are_logged()
-    ensures lines { all_asked None (codes "USER bob\r\nPASS a\r\nQU")
-        ≡ None ∷ Some (codes "USER bob") ∷ Some (codes "PASS ***") ∷ [] }
-    ensures nothing { all_asked None [] ≡ None ∷ [] }
-    ensures incomplete { log_lines None (codes "NOOP\r") ≡ [] }
-    ensures too_long { log_lines (Some 5) (codes "NOOP\r\n")
-        ≡ Some (codes "refused: Line too long") ∷ [] }
-    ensures no_password { log_lines None (codes "PASS a\r\n") ≡ Some (codes "PASS a") ∷ [] → ⊥ }
-{}
-
-/// An exchange ends with its final reply: 199 is none, and 200 is one.
-pub fn exchanges_end_with_a_final_reply()
-    ensures ended { complete_exchanges ((200, []) ∷ []) ≡ ((200, []) ∷ []) ∷ [] }
-    ensures preliminary { complete_exchanges ((199, []) ∷ []) ≡ [] }
-    ensures several { complete_exchanges ((220, []) ∷ (150, []) ∷ (226, []) ∷ (100, []) ∷ [])
-        ≡ ((220, []) ∷ []) ∷ ((150, []) ∷ (226, []) ∷ []) ∷ [] }
-    ensures left { open_after [] ((220, []) ∷ (150, []) ∷ []) ≡ (150, []) ∷ [] }
-    ensures none_left { open_part (open_after [] ((220, []) ∷ [])) ≡ [] }
-    ensures whole { IsWholeExchange ((150, []) ∷ (226, []) ∷ []) }
-    ensures two { IsWholeExchange ((226, []) ∷ (226, []) ∷ []) → ⊥ }
-    ensures no_reply { IsWholeExchange [] → ⊥ }
-{}
-
-/// Each is to its line, and none is where a line has no replies, or replies have no line.
-pub fn exchanges_are_to_lines()
-    ensures in_order { entries (None ∷ Some (codes "NOOP") ∷ [])
-        (((220, []) ∷ []) ∷ ((200, []) ∷ []) ∷ [])
-        ≡ record { line = None; replies = (220, []) ∷ [] }
-        ∷ record { line = Some (codes "NOOP"); replies = (200, []) ∷ [] } ∷ [] }
-    ensures no_replies { entries (None ∷ []) [] ≡ [] }
-    ensures no_line { entries [] (((421, []) ∷ []) ∷ []) ≡ [] }
-    ensures another { entries (None ∷ []) (((220, []) ∷ []) ∷ [])
-        ≡ record { line = None; replies = (421, []) ∷ [] } ∷ [] → ⊥ }
-{}
-
 /// Lines of a log.
 pub fn exchanges_are_written()
     ensures line { exchange_line (record {
@@ -270,65 +223,4 @@ pub fn exchanges_are_written()
     ensures space_after_a_code { lines_text ([] ∷ []) ≡ codes " " → ⊥ }
     ensures no_reply { replies_text [] ≡ [] }
     ensures line_end { lines_text (codes "a" ∷ codes "b" ∷ []) ≡ codes " a\r\nb" → ⊥ }
-{}
-
-/// What is to come of the client's lines, in whatever pieces; and where there is none.
-pub fn lines_are_to_come()
-    ensures first { (alloc : RustGlobal) → lines_to_come (new_lines alloc 6) (codes "NOOP\r\nQU")
-        ≡ None ∷ Some (codes "NOOP") ∷ [] }
-    ensures pieces { (alloc : RustGlobal) → lines_to_come (record (new_lines alloc 6) {
-      decoder = pushed (no_bytes (Some 6)) (codes "NO");
-      is_greeted = true;
-    }) (codes "OP\r\n") ≡ Some (codes "NOOP") ∷ [] }
-    ensures greeting { greeting_to_come true ≡ [] }
-    ensures next { (alloc : RustGlobal) → HasNext (new_lines alloc 6) }
-    ensures no_next { (alloc : RustGlobal)
-        → HasNext (record (new_lines alloc 6) { is_greeted = true }) → ⊥ }
-    ensures no_line { HasNoLine (no_bytes (Some 6)) }
-    ensures line { HasNoLine (record (no_bytes (Some 6)) { bytes = codes "\n" }) → ⊥ }
-{}
-
-/// What is to come of the replies: the first exchange may lack its final one, or its line.
-pub fn exchanges_are_to_come()
-    ensures preliminary { exchanges_from false ((150, []) ∷ []) ((226, []) ∷ [])
-        ≡ ((150, []) ∷ (226, []) ∷ []) ∷ [] }
-    ensures complete { exchanges_from true ((220, []) ∷ []) ((331, []) ∷ [])
-        ≡ ((220, []) ∷ []) ∷ ((331, []) ∷ []) ∷ [] }
-    ensures not_complete { exchanges_from false ((150, []) ∷ []) [] ≡ [] }
-    ensures none_read { AreRead (Some 6) (codes "220 a") [] (codes "220 a") }
-    ensures too_long { (after : Bytes)
-        → AreRead (Some 6) (codes "220 a\r\n") ((220, codes "a" ∷ []) ∷ []) after → ⊥ }
-    ensures within { AreRead (Some 7) (codes "220 a\r\n") ((220, codes "a" ∷ []) ∷ []) [] }
-    ensures at_the_limit { (pending : PendingReplies) → HasReplyPart pending
-        → pending.limit ≡ Some 6 → length pending.bytes ≡ 6 → ⊥ }
-    ensures too_much_held { (pending : PendingReplies) → HasReplyPart pending
-        → pending.bytes ≡ [] → pending.buffered ≡ 1 → ⊥ }
-{}
-
-/// A new recorder waits for the greeting; an exchange is not returned twice; and an error of the
-/// replies comes only while the exchange has no final one.
-pub fn recorders_wait()
-    ensures greeting { (limits : RustLimits) (recorder : RustRecorder) → IsNew limits recorder
-        → exchanges_to_come recorder.turn [] ≡ [] }
-    ensures first { (limits : RustLimits) (recorder : RustRecorder) → IsNew limits recorder
-        → recorder.sent.is_greeted ≡ true → ⊥ }
-    ensures twice { (recorder : RustRecorder) (entry : Entry)
-        → IsRecorded recorder (one_entry entry) recorder → ⊥ }
-    ensures pieces { joined (sent_piece (codes "NO")) (sent_piece (codes "OP"))
-        ≡ sent_piece (codes "NOOP") }
-    ensures line { (recorder : RustRecorder) → recorder.turn.is_complete ≡ true
-        → recorder.sent.is_greeted ≡ false → IsWaiting recorder → ⊥ }
-    ensures error { (recorder : RustRecorder)
-        → MeansError true recorder NextReplyError.Malformed → ⊥ }
-    ensures memory { (recorder : RustRecorder)
-        → IsBroken recorder NextReplyError.OutOfMemory → ⊥ }
-    ensures memory_for_no_line { (alloc : RustGlobal) (recorder : RustRecorder)
-        → recorder.sent ≡ record (new_lines alloc 6) { is_greeted = true }
-        → MeansError true recorder NextReplyError.OutOfMemory → ⊥ }
-    ensures no_line_unanswered { (alloc : RustGlobal) (before after : RustRecorder)
-        (error : RustError) → after.sent ≡ record (new_lines alloc 6) { is_greeted = true }
-        → TakesUnanswered before (Err error) after → ⊥ }
-    ensures unanswered { (before after : RustRecorder) (entry : Entry)
-        → IsUnanswered before entry after → replies_so_far after.turn ≡ entry.replies
-        → replies_so_far before.turn ≡ [] }
 {}

@@ -1,6 +1,5 @@
 //! What a log shows of a control connection, in printable text, without passwords and accounts: a
-//! line of a client, and an exchange: a line, or the greeting, with its replies. A recorder finds
-//! the exchanges in what both sides send, in any pieces.
+//! line of a client, and an exchange: a line, or the greeting, with its replies.
 #![tactic(auto)]
 
 ghost use Rattle.std.specs.Prelude.{◌≡◌, ◌++◌, IfOk, OnErr, OnOk, None};
@@ -16,22 +15,18 @@ mod command;
 pub mod examples;
 pub mod laws;
 mod parameter;
-mod recorder;
 mod refusal;
-mod sent;
 mod text;
-mod turn;
 mod visible;
 mod words;
 mod write;
 
 use crate::command::{visible_parts, visible_verb};
 use crate::parameter::{hides_part, shown_value};
-pub use crate::recorder::{Exchange, Limits, Recorder};
 use crate::refusal::{reason, visible_refusal};
 use crate::text::append_visible;
 use crate::visible::{Logged, Visible};
-pub use crate::write::write_exchange;
+pub use crate::write::{Exchange, write_exchange};
 use itoa::Buffer;
 use std::alloc::AllocError;
 use unftp_control_codecs::line_parser::{ParseErrorKind, Words, parameter_value};

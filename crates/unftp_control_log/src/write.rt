@@ -4,14 +4,22 @@ ghost use Rattle.unftp_control_defs.specs.Room.{LacksRoom};
 ghost use Rattle.unftp_control_read.specs.Reading.{contents};
 ghost use Rattle.unftp_control_read.specs.ReplyDecoding.{content};
 ghost use Rattle.unftp_control_log.specs.ExchangeLine.{exchange_line, further_line, further_reply, line_text, lines_text, replies_text, reply_text};
-ghost use Rattle.unftp_control_log.specs.Recording.{entry_of};
-ghost use Rattle.unftp_control_log.specs.ToCome.{held_text};
+ghost use Rattle.unftp_control_log.specs.Exchanges.{entry_of, held_text};
 
-use crate::recorder::Exchange;
 use crate::text::append_shown;
 use itoa::Buffer;
 use std::alloc::AllocError;
 use unftp_control_read::ReceivedReply;
+
+/// A line of the client, or the greeting, with its replies (RFC 959, section 5.4).
+#[derive(Debug, Drop)]
+pub struct Exchange {
+    /// The line as a log shows it (`write_log_line`). `None` is the connection, which the server
+    /// greets.
+    pub line: Option<Vec<u8>>,
+    /// The preliminary replies to it, and then the final one.
+    pub replies: Vec<ReceivedReply>,
+}
 
 /// Appends a line of a reply after the first one. As of all that follow, when out of memory there
 /// is perhaps a part of it.

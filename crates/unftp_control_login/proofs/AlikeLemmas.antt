@@ -16,14 +16,17 @@ use Rattle.unftp_control_codecs.specs.Memory.{OutcomeMayTakeMemory, MayTakeMemor
 use Rattle.unftp_control_serve.specs.Decoder.{FirstMayRunOut}
 use Rattle.unftp_control_serve.specs.Endings.{Cause, Finished, Write, Handler, LineMemory, ReplyMemory, EndsAt, HasAnswered, Unsent, whole_text}
 use Rattle.unftp_control_serve.specs.Writing.{Begins}
+use Rattle.unftp_control_login.specs.declared.stage.Progress.{Progress}
+use Rattle.unftp_control_login.specs.declared.stage.Progress.TheVariants.{LoggedIn, Named, NoName}
+use Rattle.unftp_control_login.specs.declared.stage.Role.{Role}
+use Rattle.unftp_control_login.specs.declared.stage.Role.TheVariants.{Closed, Password}
 use Rattle.unftp_control_login.specs.declared.stage.Stage.{Stage}
-use Rattle.unftp_control_login.specs.declared.stage.Stage.TheVariants.{NoName, Named, LoggedIn}
-use Rattle.unftp_control_login.specs.Login.{Accounts, GaveName}
-use Rattle.unftp_control_login.specs.Gate.{Answers, Gated, LogsIn, gated_law, not_accepted, stage_after, stage_after_password}
+use Rattle.unftp_control_login.specs.Login.{Accounts, GaveName, login_step, role_in}
+use Rattle.unftp_control_login.specs.Gate.{Gated, LogsIn, Refuses, decision_at, gated_law, nobody, not_accepted, stage_after, stage_after_all, stage_by}
 use Rattle.unftp_control_login.specs.LoginLimit.{is_pass}
 use Rattle.unftp_control_login.specs.Promises.{AccountsStayHidden, AtEachPlace, CallsHidePasswords, ErrorsHidePasswords, GivesPassword, IsRefusedLogin, LooksAlike, PasswordFits, PasswordsStayHidden, RefusedLoginsLookAlike, RefusedPasswordsLookAlike, gate_calls, guarded, login_lines, pass_line}
 use Rattle.unftp_control_login.proofs.StagedLemmas.{AllAlike, Alike, alike-itself, at, called, fails_alike, goes, turns}
-use Rattle.unftp_control_login.proofs.StageLemmas.{Reason, reason, stage_after-reason, stage_after_all, lifted, turn_replies-lifted}
+use Rattle.unftp_control_login.proofs.StageLemmas.{Reason, ReasonAt, is_password, password-role, reason, reason-after, lifted, turn_replies-lifted}
 
 -- Lines of passwords may take memory.
 pass-outcome : (outcome : Outcome) → IsTrue (is_pass (event_of outcome))
@@ -85,23 +88,33 @@ events-login {limit} {name = name} {password = password} before after ended h =
     (events-canonical_line limit (Pass password) after h.password_sent.0 (IsTyped-raw (unless_empty password)) h.password_sent.1))
 
 -- whether a password is accepted, and where it leaves the login
-password-alike : (accepts other : Accounts) (stage : Stage) (past : List FtpEvent)
-    (password another : Bytes) → Reason accepts stage past
+password-alike : (accepts other : Accounts) (progress : Progress) (name : Bytes)
+    (past : List FtpEvent) (password another : Bytes) → ReasonAt accepts progress name past
     → ((name : Bytes) → GaveName name past → accepts name password ≡ other name another)
-    → Alike accepts other stage stage (Command (Pass password)) (Command (Pass another))
-    × (stage_after_password accepts stage password ≡ stage_after_password other stage another)
-password-alike accepts other (Named name) past password another given same = (
+    → let stage : Stage = record { progress = progress; name = name } in
+    Alike accepts other stage stage (Command (Pass password)) (Command (Pass another))
+    × (stage_after accepts stage (Command (Pass password))
+    ≡ stage_after other stage (Command (Pass another)))
+password-alike accepts other Named name past password another given same = (
   record {
-    decision = ap (λ test. cond test (LogsIn name) (Answers not_accepted)) (same name given);
-    pass = refl;
+    decision = ap (λ test. cond test (LogsIn name) (Refuses not_accepted)) (same name given);
     quit = refl;
   },
-  ap (λ test. cond test LoggedIn NoName) (same name given),
+  ap (λ test. record { progress = cond test LoggedIn NoName; name = [] }) (same name given),
 )
-password-alike accepts other NoName past password another given same =
-    (record { decision = refl; pass = refl; quit = refl }, refl)
-password-alike accepts other LoggedIn past password another given same =
-    (record { decision = refl; pass = refl; quit = refl }, refl)
+password-alike accepts other progress name past password another given same =
+    (record { decision = refl; quit = refl }, refl)
+
+-- Accounts that aren't asked change nothing.
+unasked-alike : (accepts other : Accounts) (progress : Progress) (role : Role) (name : Bytes)
+    (event : FtpEvent) → is_password role ≡ false
+    → let stage : Stage = record { progress = progress; name = name } in
+    (decision_at (login_step progress role) accepts name event
+    ≡ decision_at (login_step progress role) other name event)
+    × (stage_by role accepts stage event ≡ stage_by role other stage event)
+unasked-alike accepts other progress Password name event none = absurd (false≢true (sym none))
+unasked-alike accepts other LoggedIn Closed name event none = (refl, refl)
+unasked-alike accepts other progress role name event none = (refl, refl)
 
 -- Events that look alike are.
 all-themselves : (accepts : Accounts) (stage : Stage) (events : List FtpEvent)
@@ -128,17 +141,15 @@ look-alike : (accepts other : Accounts) (stage : Stage) (past : List FtpEvent)
     → Alike accepts other stage stage event another
     × (stage_after accepts stage event ≡ stage_after other stage another)
 look-alike accepts other stage past (Command (Pass password)) (Command (Pass another)) given same =
-    password-alike accepts other stage past password another given same
+    password-alike accepts other stage.progress stage.name past password another given same
 look-alike accepts other stage past (Command (Pass password)) another given same =
     absurd (false≢true (sym (ap is_pass same)))
-look-alike accepts other stage past (Command (User name)) another given same = subst
-    (λ another. Alike accepts other stage stage (Command (User name)) another
-    × (Named name ≡ stage_after other stage another)) same
-    (record { decision = refl; pass = refl; quit = refl }, refl)
-look-alike accepts other stage past event another given same = subst
-    (λ another. Alike accepts other stage stage event another
+look-alike accepts other stage past event another given same =
+    let unasked = unasked-alike accepts other stage.progress (role_in event) stage.name event
+    (sym (password-role event)) in
+    subst (λ another. Alike accepts other stage stage event another
     × (stage_after accepts stage event ≡ stage_after other stage another)) same
-    (record { decision = refl; pass = refl; quit = refl }, refl)
+    (record { decision = unasked.0; quit = refl }, unasked.1)
 
 all-look-alike : (accepts other : Accounts) (stage : Stage) (past events others : List FtpEvent)
     → Reason accepts stage past → AtEachPlace (LooksAlike accepts other) past events others
@@ -152,7 +163,7 @@ all-look-alike accepts other stage past (event ∷ events) (another ∷ others) 
       step.0,
       subst (λ other_next. AllAlike accepts other next other_next events others) step.1
           (all-look-alike accepts other next (past ++ event ∷ []) events others
-          (stage_after-reason accepts stage past event given) same.1),
+          (reason-after accepts stage.progress stage.name past event given) same.1),
     )
 
 module _ {S : Type 0} (law : SessionLaw S) where
@@ -200,20 +211,20 @@ module _ {S : Type 0} (law : SessionLaw S) where
         (alike-itself accepts stage event))))
 
   module _ (accepts other : Accounts) (s : Gated S) (events others : List FtpEvent)
-      (same : AllAlike accepts other NoName NoName events others) where
-    text-same : text_of gate (at accepts NoName s) (run_of gate (at accepts NoName s) events)
-        ≡ text_of gate (at other NoName s) (run_of gate (at other NoName s) others)
+      (same : AllAlike accepts other nobody nobody events others) where
+    text-same : text_of gate (at accepts nobody s) (run_of gate (at accepts nobody s) events)
+        ≡ text_of gate (at other nobody s) (run_of gate (at other nobody s) others)
     text-same = ap (λ turns. flat_map encoded (all_replies turns)) (sym (each-same accepts other
         (replies_to gate) (λ stage other_stage s event another alike.
         ap turn_replies (turns law accepts other stage other_stage s event another alike)
         ∙ turn_replies-lifted (at other (stage_after other other_stage another))
-        (turn gate (at accepts stage s) event)) NoName NoName s events others same))
+        (turn gate (at accepts stage s) event)) nobody nobody s events others same))
 
-    calls-same : at_each (gate_calls law) gate (at accepts NoName s)
-        (run_of gate (at accepts NoName s) events)
-        ≡ at_each (gate_calls law) gate (at other NoName s) (run_of gate (at other NoName s) others)
-    calls-same = sym (each-same accepts other (gate_calls law) (called law accepts other) NoName
-        NoName s events others same)
+    calls-same : at_each (gate_calls law) gate (at accepts nobody s)
+        (run_of gate (at accepts nobody s) events)
+        ≡ at_each (gate_calls law) gate (at other nobody s) (run_of gate (at other nobody s) others)
+    calls-same = sym (each-same accepts other (gate_calls law) (called law accepts other) nobody
+        nobody s events others same)
 
   -- At each of these events the handler does the same in the same state.
   record SameStep (t : Gated S) (event another : FtpEvent) : Type 0 where
@@ -247,7 +258,7 @@ module _ {S : Type 0} (law : SessionLaw S) where
             (sym (goes law accepts accepts stage stage s event event itself))
             (same-steps accepts (stage_after accepts stage event)
             (after gate (at accepts stage s) event) (past ++ event ∷ []) events others
-            (stage_after-reason accepts stage past event given) same.1),
+            (reason-after accepts stage.progress stage.name past event given) same.1),
       )
 
   -- and then of the runs over them.
@@ -335,7 +346,7 @@ module _ {S : Type 0} (law : SessionLaw S) where
       let s : Gated S = guarded failures accepts inner in
       let t = before.state in
       let steps =
-      same-steps accepts NoName s [] (events limit input) (events limit other) tt same in
+      same-steps accepts nobody s [] (events limit input) (events limit other) tt same in
       let runs = same-runs t (events limit input) (events limit other)
       (subst (λ t. SameSteps t (events limit input) (events limit other)) (sym is) steps) in
       let o = other_run t done failed.later (run_of gate t (events limit other))
@@ -375,16 +386,16 @@ module _ {S : Type 0} (law : SessionLaw S) where
 
     pub passwords-hidden : PasswordsStayHidden limit accepts gate s
     passwords-hidden input other same = text-same accepts accepts s (events limit input)
-        (events limit other) (all-look-alike accepts accepts NoName [] _ _ tt same)
+        (events limit other) (all-look-alike accepts accepts nobody [] _ _ tt same)
 
     pub calls-hidden : CallsHidePasswords limit accepts gate s (gate_calls law)
     calls-hidden input other same = calls-same accepts accepts s (events limit input)
-        (events limit other) (all-look-alike accepts accepts NoName [] _ _ tt same)
+        (events limit other) (all-look-alike accepts accepts nobody [] _ _ tt same)
 
     pub accounts-hidden : (other : Accounts) → AccountsStayHidden limit accepts other
         (gate_calls law) gate s (guarded failures other inner)
     accounts-hidden other input alike =
-        let same = all-look-alike accepts other NoName [] (events limit input)
+        let same = all-look-alike accepts other nobody [] (events limit input)
         (events limit input) tt alike in (
           text-same accepts other s (events limit input) (events limit input) same,
           calls-same accepts other s (events limit input) (events limit input) same,
@@ -393,20 +404,20 @@ module _ {S : Type 0} (law : SessionLaw S) where
     -- after the same lines
     text-after : (before more others : List FtpEvent) (input other : Bytes)
         → events limit input ≡ before ++ more → events limit other ≡ before ++ others
-        → AllAlike accepts accepts (stage_after_all accepts NoName before)
-        (stage_after_all accepts NoName before) more others
+        → AllAlike accepts accepts (stage_after_all accepts nobody before)
+        (stage_after_all accepts nobody before) more others
         → text_for limit gate s input
         ≡ text_for limit gate s other
     text-after before more others input other one two same =
         text-same accepts accepts s (events limit input) (events limit other)
-        (rw (one, two) (all-after accepts NoName before more others same))
+        (rw (one, two) (all-after accepts nobody before more others same))
 
     pub passwords-alike : RefusedPasswordsLookAlike limit accepts gate s
     passwords-alike before after password other ended one two same =
         let past : List FtpEvent = events limit before in
-        let stage : Stage = stage_after_all accepts NoName past in
-        let alike = password-alike accepts accepts stage past password other
-        (reason accepts NoName [] past tt) same in
+        let stage : Stage = stage_after_all accepts nobody past in
+        let alike = password-alike accepts accepts stage.progress stage.name past password other
+        (reason accepts nobody [] past tt) same in
         text-after past (Command (Pass password) ∷ events limit after)
         (Command (Pass other) ∷ events limit after) (before ++ (pass_line password ++ after))
         (before ++ (pass_line other ++ after)) (events-pass limit before after password ended one)
@@ -425,9 +436,9 @@ module _ {S : Type 0} (law : SessionLaw S) where
         (before ++ (login_lines name password ++ after))
         (before ++ (login_lines other another ++ after)) (events-login before after ended one)
         (events-login before after ended two) (
-          record { decision = refl; pass = refl; quit = refl },
+          record { decision = refl; quit = refl },
           (
-            record { decision = rw (one.refused, two.refused) refl; pass = refl; quit = refl },
-            rw (one.refused, two.refused) (all-themselves accepts NoName (events limit after)),
+            record { decision = rw (one.refused, two.refused) refl; quit = refl },
+            rw (one.refused, two.refused) (all-themselves accepts nobody (events limit after)),
           ),
         )

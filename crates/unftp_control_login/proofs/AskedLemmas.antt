@@ -4,27 +4,17 @@ use Rattle.std.proofs.Common.{◌≡◌, ℕ, List, [], ◌∷◌, ◌++◌, map
 use Rattle.std.specs.Prelude.{if◌then◌else◌, flat_map, Result, Ok, Err}
 use Rattle.std.proofs.lemmas.List.{append-nil}
 use Rattle.unftp_control_defs.specs.Bytes.{Bytes}
-use Rattle.unftp_control_defs.specs.FtpCommand.{User}
-use Rattle.unftp_control_defs.specs.Events.{FtpEvent, Command, events}
+use Rattle.unftp_control_defs.specs.Events.{FtpEvent, events}
 use Rattle.unftp_control_defs.specs.FtpReply.{FtpReply, encoded}
 use Rattle.unftp_control_defs.specs.Run.{Follows, SessionLaw, after, all_replies, last_state, replies_by_event, replies_to, run_for, run_of, text_for, turn}
 use Rattle.unftp_control_message.specs.declared.reply.Reply.{Reply}
 use Rattle.unftp_control_message.specs.declared.reply.error.ControlChanError.{ControlChanError}
 use Rattle.unftp_control_serve.specs.Answering.{FirstAnswer}
-use Rattle.unftp_control_login.specs.declared.stage.Stage.{Stage}
-use Rattle.unftp_control_login.specs.declared.stage.Stage.TheVariants.{NoName, Named, LoggedIn}
 use Rattle.unftp_control_login.specs.HandlerCalls.{Call}
 use Rattle.unftp_control_login.specs.Gate.{Gated, gated_law, questions}
 use Rattle.unftp_control_login.specs.Asked.{AskedGate, IsClosed, all_questions, asked_law}
 use Rattle.unftp_control_login.specs.Promises.{guarded}
 use Rattle.unftp_control_login.proofs.StageLemmas.{after-lifted, turn_replies-lifted}
-
--- At USER the accounts are asked nothing.
-pub user-asks-nothing : (asked : List Call) (stage : Stage) (name : Bytes)
-    → asked ≡ asked ++ questions stage (Command (User name))
-user-asks-nothing asked (Named given) name = sym (append-nil asked)
-user-asks-nothing asked NoName name = sym (append-nil asked)
-user-asks-nothing asked LoggedIn name = sym (append-nil asked)
 
 module _ {S : Type 0} (law : SessionLaw S) where
   abbrev gate : SessionLaw (Gated S)

@@ -4,26 +4,23 @@ use Rattle.std.proofs.lemmas.Bool.{false≢true}
 use Rattle.unftp_control_defs.specs.Bytes.{Bytes}
 use Rattle.unftp_control_defs.specs.Events.{FtpEvent}
 use Rattle.unftp_control_login.specs.declared.stage.Stage.{Stage}
-use Rattle.unftp_control_login.specs.declared.stage.Stage.TheVariants.{NoName, Named}
 use Rattle.unftp_control_login.specs.Login.{Accounts, GaveName, IsLoggedIn}
-use Rattle.unftp_control_login.specs.Gate.{is_logged_in}
+use Rattle.unftp_control_login.specs.Gate.{is_logged_in, nobody, stage_after_all}
 use Rattle.unftp_control_login.specs.Examples.{user}
-use Rattle.unftp_control_login.proofs.StageLemmas.{stage_after_all, GaveName-stage, IsLoggedIn-stage}
+use Rattle.unftp_control_login.proofs.StageLemmas.{GaveName-stage, IsLoggedIn-stage}
 
 -- no login where the stage that computes isn't one
 pub not-logged-in : (accepts : Accounts) (events : List FtpEvent)
-    → is_logged_in (stage_after_all accepts NoName events) ≡ false → ¬ IsLoggedIn accepts events
+    → is_logged_in (stage_after_all accepts nobody events).progress ≡ false
+    → ¬ IsLoggedIn accepts events
 not-logged-in accepts events stage h =
     absurd (false≢true (sym stage ∙ ap is_logged_in (IsLoggedIn-stage accepts events h)))
 
--- the name that the stage holds is the last one given
-abbrev pub name_of : Stage → Bytes
-name_of (Named name) = name
-name_of stage = []
-
+-- the name that is kept is the last one given
 pub given-name : (accepts : Accounts) (one name : Bytes) → GaveName name (user one ∷ [])
     → one ≡ name
-given-name accepts one name given = ap name_of (GaveName-stage accepts name (user one ∷ []) given)
+given-name accepts one name given =
+    ap (λ (stage : Stage). stage.name) (GaveName-stage accepts name (user one ∷ []) given)
 
 pub gave : (one : Bytes) → GaveName one (user one ∷ [])
 gave one = record { before = []; since = []; whole = refl; kept = tt }

@@ -2,14 +2,20 @@
 use Rattle.std.proofs.Common.{◌≡◌, ◌<◌, ◌≤◌, ◌⊎◌, inl, inr, ℕ, zero, suc, ◌+◌, ◌-◌, ◌==◌, Bool, true, false, ◌&&◌, ◌||◌, cond, List, [], ◌∷◌, ◌++◌, Some, None, refl, sym, ap, ◌∙◌, arith, append_assoc}
 use Rattle.std.proofs.lemmas.Bool.{cond_both, false≢true, lt-leb, ne_eqb}
 use Rattle.std.proofs.lemmas.List.{append-nil}
+use Rattle.unftp_control_defs.specs.Bytes.{Bytes}
 use Rattle.unftp_control_defs.specs.Events.{FtpEvent, Command, is_quit}
 use Rattle.unftp_control_defs.specs.FtpCommand.{Pass, Quit}
 use Rattle.unftp_control_defs.specs.FtpReply.{FtpReply}
 use Rattle.unftp_control_defs.specs.Run.{SessionLaw, after, turn_replies, state_after, replies_to}
-use Rattle.unftp_control_login.specs.Gate.{Answers, Decision, Gated, decided, decides, gated_law, is_passed, is_refusal, limited, name_needed, not_accepted, reply_by, state_by, unlimited}
-use Rattle.unftp_control_login.specs.LoginLimit.{EndsWith, failed_in_run, has_failure, is_failed_login, is_last, is_pass, is_used_up, one_fewer, too_many}
+use Rattle.unftp_control_login.specs.Gate.{Decision, Gated, LogsIn, Refuses, decided, decides, decision_at, gated_law, is_passed, is_refusal, limited, name_needed, not_accepted, password_in, reply_by, state_by, unlimited}
+use Rattle.unftp_control_login.specs.Login.{Accounts, login_step, role_in}
+use Rattle.unftp_control_login.specs.declared.stage.Progress.{Progress}
+use Rattle.unftp_control_login.specs.declared.stage.Progress.TheVariants.{LoggedIn, Named}
+use Rattle.unftp_control_login.specs.declared.stage.Role.{Role}
+use Rattle.unftp_control_login.specs.declared.stage.Role.TheVariants.{Closed, Password}
+use Rattle.unftp_control_login.specs.LoginLimit.{EndsWith, failed_in_run, has_failure, is_failed_login, is_failure, is_last, is_used_up, one_fewer, too_many}
 use Rattle.unftp_control_login.proofs.MemberLemmas.{turned}
-use Rattle.unftp_control_login.proofs.StageLemmas.{by-password, gate-after}
+use Rattle.unftp_control_login.proofs.StageLemmas.{gate-after, is_password, password-role}
 
 on-left : (quit : Bool) (left : ℕ) (done : Bool) → ((quit || (left == 0)) || done) ≡ false → 1 ≤ left
 on-left true left done e = absurd (false≢true (sym e))
@@ -17,10 +23,17 @@ on-left false zero done e = absurd (false≢true (sym e))
 on-left false (suc left) done e = omega arith
 
 -- Without a limit a decision stays.
-none-limited : (at_pass : Bool) (decision : Decision) → limited None at_pass decision ≡ decision
-none-limited true (Answers reply) = refl
-none-limited false (Answers reply) = refl
-none-limited at_pass decision = refl
+none-limited : (decision : Decision) → limited None decision ≡ decision
+none-limited (Refuses reply) = refl
+none-limited decision = refl
+
+-- No login is refused but at a PASS.
+no-refusal : (progress : Progress) (role : Role) (accepts : Accounts) (name : Bytes)
+    (event : FtpEvent) → is_password role ≡ false
+    → false ≡ is_refusal (decision_at (login_step progress role) accepts name event)
+no-refusal progress Password accepts name event none = absurd (false≢true (sym none))
+no-refusal LoggedIn Closed accepts name event none = refl
+no-refusal progress role accepts name event none = refl
 
 module _ {S : Type 0} (law : SessionLaw S) where
   abbrev gate : SessionLaw (Gated S)
@@ -31,26 +44,33 @@ module _ {S : Type 0} (law : SessionLaw S) where
   failed s event = is_failed_login event (replies_to gate s event)
 
   abbrev refuses : Gated S → FtpEvent → Bool
-  refuses s event = is_refusal (is_pass event) (decided s.accepts s.stage event)
+  refuses s event = is_refusal (decided s.accepts s.stage event)
 
   -- whether a reply reports a failure, where this is decided
   abbrev fails : Gated S → Decision → Bool
   fails s decision = has_failure (reply_by law s.inner decision
       ∷ turn_replies (cond (is_passed decision) (law.more (state_by law s.inner decision)) []))
 
+  refused-fails : (s : Gated S) (reply : FtpReply) → is_failure reply ≡ true
+      → fails s (limited s.left (Refuses reply)) ≡ true
+  refused-fails s reply fails-so = cond_both (is_last s.left) (Refuses too_many) (Refuses reply)
+      (λ decision. fails s decision ≡ true) (λ _. refl) (λ _. ap (λ test. test || false) fails-so)
+
+  password-fails : (s : Gated S) (progress : Progress) (event : FtpEvent)
+      → let decision = decision_at (login_step progress Password) s.accepts s.stage.name event in
+      fails s (limited s.left decision) ≡ is_refusal decision
+  password-fails s Named event =
+      cond_both (s.accepts s.stage.name (password_in event)) (LogsIn s.stage.name)
+      (Refuses not_accepted) (λ decision. fails s (limited s.left decision) ≡ is_refusal decision)
+      (λ _. refl) (λ _. refused-fails s not_accepted refl)
+  password-fails s progress event = refused-fails s name_needed refl
+
   failed-refuses : (s : Gated S) (event : FtpEvent) → failed s event ≡ refuses s event
   failed-refuses s (Command (Pass password)) =
       ap has_failure (turned law s (Command (Pass password)) refl (refl, refl)).0
-      ∙ by-password (λ own decision. fails s decision ≡ is_refusal true own) (λ name. refl)
-      (λ last. cond_both last (Answers too_many) (Answers not_accepted)
-      (λ decision. fails s decision ≡ true) (λ _. refl) (λ _. refl))
-      (λ last. cond_both last (Answers too_many) (Answers name_needed)
-      (λ decision. fails s decision ≡ true) (λ _. refl) (λ _. refl))
-      s.accepts s.left s.stage password
-  failed-refuses s event = none (decided s.accepts s.stage event) where
-    none : (decision : Decision) → false ≡ is_refusal false decision
-    none (Answers reply) = refl
-    none decision = refl
+      ∙ password-fails s s.stage.progress (Command (Pass password))
+  failed-refuses s event = no-refusal s.stage.progress (role_in event) s.accepts s.stage.name event
+      (sym (password-role event))
 
   after-left : (s : Gated S) (event : FtpEvent) (refused : Bool) → refuses s event ≡ refused
       → (after gate s event).left ≡ cond refused (one_fewer s.left) s.left
@@ -59,8 +79,8 @@ module _ {S : Type 0} (law : SessionLaw S) where
 
   last-said : (s : Gated S) (event : FtpEvent) → refuses s event ≡ true → is_last s.left ≡ true
       → replies_to gate s event ≡ too_many ∷ []
-  last-said s event refused last = (turned law s event {decision = Answers too_many}
-      (λ i. cond (refused i && last i) (Answers too_many) (decided s.accepts s.stage event))
+  last-said s event refused last = (turned law s event {decision = Refuses too_many}
+      (λ i. cond (refused i && last i) (Refuses too_many) (decided s.accepts s.stage event))
       (refl, refl)).0
 
   pub record IsBounded (s : Gated S) (left : ℕ) (events : List FtpEvent) : Type 0 where
@@ -138,7 +158,7 @@ module _ {S : Type 0} (law : SessionLaw S) where
     abbrev own : Decision
     own = decided s.accepts s.stage event
 
-    not-last : (refused : Bool) → is_refusal (is_pass event) own ≡ refused
+    not-last : (refused : Bool) → is_refusal own ≡ refused
         → (refused && is_last s.left) ≡ false
     not-last false e = refl
     not-last true e = by_few few where
@@ -148,8 +168,7 @@ module _ {S : Type 0} (law : SessionLaw S) where
           absurd (false≢true (sym none ∙ failed-refuses (unlimited s) event ∙ e))
 
     same : decides s event ≡ decides (unlimited s) event
-    same = ap (λ last. cond last (Answers too_many) own) (not-last _ refl)
-        ∙ sym (none-limited (is_pass event) own)
+    same = ap (λ last. cond last (Refuses too_many) own) (not-last _ refl) ∙ sym (none-limited own)
 
     pub says-unchanged : replies_to gate s event ≡ replies_to gate (unlimited s) event
     says-unchanged = (turned law s event same (refl, refl)).0

@@ -15,12 +15,14 @@ use Rattle.unftp_control_defs.specs.Turns.{cut_after_final, cut_reads, is_prelim
 use Rattle.unftp_control_defs.proofs.EncodingLemmas.{ReadsBack-encoded, are_plain, are_shown}
 use Rattle.unftp_control_defs.proofs.ExchangeLemmas.{all-append, cut-exchange, cut-read, length-replies_by_event}
 use Rattle.unftp_control_defs.proofs.RunLemmas.{last_state-append, run_of-first}
-use Rattle.unftp_control_login.specs.declared.stage.Stage.TheVariants.{NoName}
-use Rattle.unftp_control_login.specs.Login.{Accounts, GaveName, IsLoggedIn, is_login, needs_login}
-use Rattle.unftp_control_login.specs.Gate.{Answers, Decision, Gated, LogsIn, PassesOn, decided_by_password, decides, gated_law, is_barred, is_logged_in, is_passed, limited, logged_in, login_needed, name_needed, not_accepted, password_needed, reply_by, state_by}
-use Rattle.unftp_control_login.specs.LoginLimit.{is_used_up, too_many}
+use Rattle.unftp_control_login.specs.declared.stage.LoginStep.{LoginStep}
+use Rattle.unftp_control_login.specs.declared.stage.LoginStep.TheVariants.{AskAccounts, NeedLogin, NeedName, NeedPassword, PassOn}
+use Rattle.unftp_control_login.specs.declared.stage.Stage.{Stage}
+use Rattle.unftp_control_login.specs.Login.{Accounts, GaveName, IsLoggedIn, is_login, login_step, needs_login, role_in}
+use Rattle.unftp_control_login.specs.Gate.{Answers, Decision, Gated, LogsIn, PassesOn, Refuses, decided, decides, decision_at, gated_law, is_logged_in, is_passed, limited, logged_in, login_needed, name_needed, nobody, not_accepted, password_in, password_needed, reply_by, stage_after_all, state_by}
+use Rattle.unftp_control_login.specs.LoginLimit.{is_last, is_used_up, too_many}
 use Rattle.unftp_control_login.specs.Promises.{AfterLogin, AtEachPlace, IsPlainExchange, IsTurnedAway, LearnsName, MembersAlone, NoFailure, ReachesHandler, SendsPlainExchanges, ServesMembersAlone, guarded}
-use Rattle.unftp_control_login.proofs.StageLemmas.{IsLoggedIn-stage, GaveName-stage, gate-after, gate-more, passed_more, logged_in-stage, needs-other, by-password, decided-barred, decided-open, decides-other, stage_after_all, turn_replies-lifted}
+use Rattle.unftp_control_login.proofs.StageLemmas.{GaveName-stage, IsLoggedIn-stage, closed-step, gate-after, gate-more, logged_in-stage, passed-step, passed_more, turn_replies-lifted}
 use Rattle.unftp_control_login.proofs.FinalLemmas.{IsFinal, final}
 use Rattle.unftp_control_login.proofs.StagedLemmas.{at, last-at}
 
@@ -52,20 +54,23 @@ module _ {S : Type 0} (law : SessionLaw S) (s : Gated S) (event : FtpEvent) wher
         ap (λ (s : Gated S). s.inner) (gate-after law n) ∙ so.1,
       )
 
-  module _ (other : is_login event ≡ false) where
-    pub barred-turn : is_barred s.stage event ≡ true
-        → (replies_to (gated_law law) s event ≡ login_needed ∷ [])
-        × ((after (gated_law law) s event).inner ≡ s.inner)
-    barred-turn barred = turned
-        (decides-other s event other (decided-barred s.accepts s.stage event other barred))
-        (refl, refl)
+  -- what is decided at a step that the limit doesn't change
+  decided-at : {step : LoginStep} → login_step s.stage.progress (role_in event) ≡ step
+      → decides s event ≡ limited s.left (decision_at step s.accepts s.stage.name event)
+  decided-at is = ap (λ step. limited s.left (decision_at step s.accepts s.stage.name event)) is
 
-    pub open-turn : is_barred s.stage event ≡ false
-        → (replies_to (gated_law law) s event ≡ replies_to law s.inner event)
-        × ((after (gated_law law) s event).inner ≡ after law s.inner event)
-    open-turn free = turned
-        (decides-other s event other (decided-open s.accepts s.stage event other free))
-        (refl, refl)
+  pub barred-turn : IsTrue (needs_login event) → is_logged_in s.stage.progress ≡ false
+      → (replies_to (gated_law law) s event ≡ login_needed ∷ [])
+      × ((after (gated_law law) s event).inner ≡ s.inner)
+  barred-turn needs out = turned (decided-at (closed-step s.stage.progress (role_in event) needs
+      ∙ ap (λ test. cond test PassOn NeedLogin) out)) (refl, refl)
+
+  pub open-turn : is_login event ≡ false
+      → (needs_login event && not (is_logged_in s.stage.progress)) ≡ false
+      → (replies_to (gated_law law) s event ≡ replies_to law s.inner event)
+      × ((after (gated_law law) s event).inner ≡ after law s.inner event)
+  open-turn other free =
+      turned (decided-at (passed-step s.stage.progress event other free)) (refl, refl)
 
 module _ {S : Type 0} (law : SessionLaw S) (accepts : Accounts) (failures : Option ℕ) (inner : S)
   where
@@ -76,26 +81,26 @@ module _ {S : Type 0} (law : SessionLaw S) (accepts : Accounts) (failures : Opti
     after_all before = last_state (gated_law law) first before
 
     state-is : (before : List FtpEvent) → (base : Gated S)
-        × (after_all before ≡ at accepts (stage_after_all accepts NoName before) base)
-    state-is before = last-at law accepts NoName first before
+        × (after_all before ≡ at accepts (stage_after_all accepts nobody before) base)
+    state-is before = last-at law accepts nobody first before
 
     stage-is : (before : List FtpEvent)
-        → (after_all before).stage ≡ stage_after_all accepts NoName before
+        → (after_all before).stage ≡ stage_after_all accepts nobody before
     stage-is before = ap (λ (s : Gated S). s.stage) (state-is before).1
 
     gated_at : (before : List FtpEvent) (event : FtpEvent) → IsTrue (needs_login event)
-        → (member : Bool) → is_logged_in (after_all before).stage ≡ member
+        → (member : Bool) → is_logged_in (after_all before).stage.progress ≡ member
         → IsLoggedIn accepts before ⊎ IsTurnedAway law first before event
     gated_at before event needs true e =
-        inl (logged_in-stage accepts before (ap is_logged_in (sym (stage-is before)) ∙ e))
+        inl (logged_in-stage accepts before
+        (ap (λ (stage : Stage). is_logged_in stage.progress) (sym (stage-is before)) ∙ e))
     gated_at before event needs false e =
-        inr (barred-turn law (after_all before) event (needs-other event needs)
-        (λ i. needs i && not (e i)))
+        inr (barred-turn law (after_all before) event needs e)
 
     pub gated-all : (before : List FtpEvent) (event : FtpEvent) → IsTrue (needs_login event)
         → IsLoggedIn accepts before ⊎ IsTurnedAway law first before event
     gated-all before event needs =
-        gated_at before event needs (is_logged_in (after_all before).stage) refl
+        gated_at before event needs (is_logged_in (after_all before).stage.progress) refl
 
     needs_none : (needs member : Bool) → needs ≡ false → (needs && not member) ≡ false
     needs_none needs member e = ap (λ test. test && not member) e
@@ -109,8 +114,9 @@ module _ {S : Type 0} (law : SessionLaw S) (accepts : Accounts) (failures : Opti
         → ReachesHandler law first before event
     member-reaches before event other member =
         open-turn law (after_all before) event other
-        (ap (λ stage. needs_login event && not (is_logged_in stage))
-        (stage-is before ∙ IsLoggedIn-stage accepts before member)
+        (ap (λ progress. needs_login event && not (is_logged_in progress))
+        (ap (λ (stage : Stage). stage.progress) (stage-is before)
+        ∙ IsLoggedIn-stage accepts before member)
         ∙ is_member (needs_login event))
 
     pub open-reaches : (before : List FtpEvent) (event : FtpEvent) → is_login event ≡ false
@@ -118,7 +124,7 @@ module _ {S : Type 0} (law : SessionLaw S) (accepts : Accounts) (failures : Opti
         → ReachesHandler law first before event
     open-reaches before event other free =
         open-turn law (after_all before) event other
-        (needs_none (needs_login event) (is_logged_in (after_all before).stage) free)
+        (needs_none (needs_login event) (is_logged_in (after_all before).stage.progress) free)
 
     -- an accepted password: the handler receives the name
     pub name-learned : (before : List FtpEvent) (name password : Bytes) → GaveName name before
@@ -127,10 +133,10 @@ module _ {S : Type 0} (law : SessionLaw S) (accepts : Accounts) (failures : Opti
         let s = after_all before in
         let is = (state-is before).1 in
         (turned law s (Command (Pass password)) {sent = logged_in ∷ []}
-        (ap (limited s.left true) ((λ i. decided_by_password (is i).accepts (is i).stage password)
-        ∙ ap (λ stage. decided_by_password accepts stage password)
+        (ap (limited s.left) ((λ i. decided (is i).accepts (is i).stage (Command (Pass password)))
+        ∙ ap (λ stage. decided accepts stage (Command (Pass password)))
         (GaveName-stage accepts name before named)
-        ∙ ap (λ test. cond test (LogsIn name) (Answers not_accepted)) accepted)) (refl, refl)).1
+        ∙ ap (λ test. cond test (LogsIn name) (Refuses not_accepted)) accepted)) (refl, refl)).1
 
     -- Who is served.
     pub serves-members : ServesMembersAlone accepts (gated_law law) first
@@ -152,20 +158,30 @@ sends-later law s t event sends same on = subst (SendsPlainExchanges law) (sym s
 -- The gate's own replies are final ones,
 abbrev OwnFinal : Decision → Type 0
 OwnFinal (Answers reply) = IsFinal reply
+OwnFinal (Refuses reply) = IsFinal reply
 OwnFinal (LogsIn name) = IsFinal logged_in
 OwnFinal (PassesOn event) = Unit {0}
 
+refusal-final : (left : Option ℕ) (reply : FtpReply) → IsFinal reply
+    → OwnFinal (limited left (Refuses reply))
+refusal-final left reply own = cond_both (is_last left) (Refuses too_many) (Refuses reply) OwnFinal
+    (λ _. final too_many refl) (λ _. own)
+
+step-final : (left : Option ℕ) (step : LoginStep) (accepts : Accounts) (name : Bytes)
+    (event : FtpEvent) → OwnFinal (limited left (decision_at step accepts name event))
+step-final left PassOn accepts name event = tt
+step-final left NeedPassword accepts name event = final password_needed refl
+step-final left AskAccounts accepts name event =
+    cond_both (accepts name (password_in event)) (LogsIn name) (Refuses not_accepted)
+    (λ decision. OwnFinal (limited left decision)) (λ _. final logged_in refl)
+    (λ _. refusal-final left not_accepted (final not_accepted refl))
+step-final left NeedName accepts name event =
+    refusal-final left name_needed (final name_needed refl)
+step-final left NeedLogin accepts name event = final login_needed refl
+
 decides-final : {S : Type 0} (s : Gated S) (event : FtpEvent) → OwnFinal (decides s event)
-decides-final s (Command (User name)) = final password_needed refl
-decides-final s (Command (Pass password)) =
-    by-password (λ own decision. OwnFinal decision) (λ name. final logged_in refl)
-    (λ last. cond_both last (Answers too_many) (Answers not_accepted) OwnFinal
-    (λ _. final too_many refl) (λ _. final not_accepted refl))
-    (λ last. cond_both last (Answers too_many) (Answers name_needed) OwnFinal
-    (λ _. final too_many refl) (λ _. final name_needed refl)) s.accepts s.left s.stage password
-decides-final s event =
-    cond_both (is_barred s.stage event) (Answers login_needed) (PassesOn event)
-    (λ decision. OwnFinal (limited s.left false decision)) (λ _. final login_needed refl) (λ _. tt)
+decides-final s event = step-final s.left (login_step s.stage.progress (role_in event)) s.accepts
+    s.stage.name event
 
 -- and all others those of the handler, which stays, or has received an event.
 gate-turn : {S : Type 0} (law : SessionLaw S) (s : Gated S) (event : FtpEvent)
@@ -176,14 +192,21 @@ gate-turn {S = S} law s event sends = by_decision (decides s event) refl (decide
   n : S
   n = (after (gated_law law) s event).inner
 
+  answered : (reply : FtpReply) → (replies_to (gated_law law) s event ≡ reply ∷ []) × (n ≡ s.inner)
+      → IsFinal reply → IsPlainExchange (replies_to (gated_law law) s event)
+      × (law.done n ≡ false → SendsPlainExchanges law n)
+  answered reply turn own = (
+    subst IsPlainExchange (sym turn.0) (own.1, (own.0, tt)),
+    λ on. subst (SendsPlainExchanges law) (sym turn.1) sends,
+  )
+
   by_decision : (decision : Decision) → decides s event ≡ decision → OwnFinal decision
       → IsPlainExchange (replies_to (gated_law law) s event)
       × (law.done n ≡ false → SendsPlainExchanges law n)
   by_decision (Answers reply) is own =
-      let turn = turned law s event {sent = reply ∷ []} is (refl, refl) in (
-        subst IsPlainExchange (sym turn.0) (own.1, (own.0, tt)),
-        λ on. subst (SendsPlainExchanges law) (sym turn.1) sends,
-      )
+      answered reply (turned law s event {sent = reply ∷ []} is (refl, refl)) own
+  by_decision (Refuses reply) is own =
+      answered reply (turned law s event {sent = reply ∷ []} is (refl, refl)) own
   by_decision (LogsIn name) is own =
       let turn = turned law s event {sent = logged_in ∷ []} is (refl, refl) in (
         subst IsPlainExchange (sym turn.0) (own.1, (own.0, tt)),

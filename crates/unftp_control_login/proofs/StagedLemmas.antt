@@ -6,21 +6,19 @@ use Rattle.unftp_control_defs.specs.Run.{SessionLaw, after, last_state, state_af
 use Rattle.unftp_control_login.specs.declared.stage.Stage.{Stage}
 use Rattle.unftp_control_login.specs.Login.{Accounts}
 use Rattle.unftp_control_login.specs.HandlerCalls.{FailsIn, calls_in}
-use Rattle.unftp_control_login.specs.Gate.{Decision, Gated, PassesOn, all_calls_by, calls_by, decided, decides, gated_law, is_passed, attempts_after, limited, reply_by, stage_after, state_by}
-use Rattle.unftp_control_login.specs.LoginLimit.{is_pass}
+use Rattle.unftp_control_login.specs.Gate.{Decision, Gated, PassesOn, all_calls_by, calls_by, decided, decides, gated_law, is_passed, attempts_after, limited, reply_by, stage_after, stage_after_all, state_by}
 use Rattle.unftp_control_login.specs.Promises.{gate_calls}
-use Rattle.unftp_control_login.proofs.StageLemmas.{stage_after_all, after-lifted, lifted, lifted-lifted}
+use Rattle.unftp_control_login.proofs.StageLemmas.{after-lifted, lifted, lifted-lifted}
 
 -- Gates with these accounts, at these stages, decide the same at these events.
 pub record Alike (accepts other : Accounts) (stage other_stage : Stage) (event another : FtpEvent)
     : Type 0 where
   pub decision : decided accepts stage event ≡ decided other other_stage another
-  pub pass : is_pass event ≡ is_pass another
   pub quit : is_quit event ≡ is_quit another
 
 pub alike-itself : (accepts : Accounts) (stage : Stage) (event : FtpEvent)
     → Alike accepts accepts stage stage event event
-alike-itself accepts stage event = record { decision = refl; pass = refl; quit = refl }
+alike-itself accepts stage event = record { decision = refl; quit = refl }
 
 -- and at all of these, from these stages on
 abbrev pub AllAlike : Accounts → Accounts → Stage → Stage → List FtpEvent → List FtpEvent → Type 0
@@ -69,18 +67,18 @@ module _ {S : Type 0} (law : SessionLaw S) where
   module _ (accepts other : Accounts) (stage other_stage : Stage) (s : Gated S)
       (event another : FtpEvent) (alike : Alike accepts other stage other_stage event another) where
     same_decision : decides (at other other_stage s) another ≡ decides (at accepts stage s) event
-    same_decision = λ i. limited s.left (sym alike.pass i) (sym alike.decision i)
+    same_decision = ap (limited s.left) (sym alike.decision)
 
     pub turns : turn gate (at other other_stage s) another
         ≡ lifted (at other (stage_after other other_stage another))
         (turn gate (at accepts stage s) event)
     turns =
         (λ i. turn_by other (stage_after other other_stage another) s
-        (attempts_after s.left (sym alike.pass i) (sym alike.decision i)) (same_decision i)
+        (attempts_after s.left (sym alike.decision i)) (same_decision i)
         (sym alike.quit i))
         ∙ turn-lifted other (stage_after other other_stage another)
         (at accepts (stage_after accepts stage event) s)
-        (attempts_after s.left (is_pass event) (decided accepts stage event))
+        (attempts_after s.left (decided accepts stage event))
         (decides (at accepts stage s) event) (is_quit event)
 
     pub goes : after gate (at other other_stage s) another

@@ -3,9 +3,8 @@ use Rattle.std.specs.Prelude.{◌≡◌, ℕ, false, List, ◌++◌, flat_map, m
 use Rattle.unftp_control_defs.specs.Bytes.{Bytes}
 use Rattle.unftp_control_defs.specs.Events.{FtpEvent}
 use Rattle.unftp_control_defs.specs.Run.{SessionLaw, at_each, run_for}
-use Rattle.unftp_control_login.specs.declared.stage.Stage.TheVariants.{NoName}
 use Rattle.unftp_control_login.specs.HandlerCalls.{Call}
-use Rattle.unftp_control_login.specs.Gate.{Gated, gated_law, questions}
+use Rattle.unftp_control_login.specs.Gate.{Gated, gated_law, nobody, questions}
 
 -- A gate, and all that its accounts were asked, in order.
 pub record AskedGate (S : Type 0) : Type 0 where
@@ -38,6 +37,6 @@ questions_for limit law s input = all_questions law s (run_for limit (gated_law 
 
 -- a gate before the first event
 pub record IsClosed {S : Type 0} (s : Gated S) : Type 0 where
-  pub stage : s.stage ≡ NoName
+  pub stage : s.stage ≡ nobody
   pub quit : s.quit ≡ false
   pub passed : s.passed ≡ false

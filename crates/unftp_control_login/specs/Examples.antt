@@ -5,6 +5,8 @@ use Rattle.unftp_control_defs.specs.FtpCommand.{User, Pass}
 use Rattle.unftp_control_defs.specs.Events.{FtpEvent, Command, out_of_memory}
 use Rattle.unftp_control_defs.specs.FtpReply.{FtpReply, Nothing, CodeAndMsg}
 use Rattle.unftp_control_defs.specs.Run.{SessionLaw, as_session}
+use Rattle.unftp_control_login.specs.declared.stage.Progress.{Progress}
+use Rattle.unftp_control_login.specs.declared.stage.Stage.{Stage}
 use Rattle.unftp_control_login.specs.Login.{Accounts}
 use Rattle.unftp_control_login.specs.HandlerCalls.{Call, CallState}
 use Rattle.unftp_control_login.specs.Gate.{Gated}
@@ -40,6 +42,10 @@ pass password = Command (Pass password)
 
 abbrev pub login : List FtpEvent
 login = user anna ∷ pass secret ∷ []
+
+-- a login that is so far, with this name
+abbrev pub stage : Progress → Bytes → Stage
+stage progress name = record { progress = progress; name = name }
 
 abbrev pub here : FtpReply
 here = CodeAndMsg 257 (codes "here")

@@ -1,14 +1,18 @@
 -- A login gate before a handler: what it answers itself, and what it passes on to the handler.
-use Rattle.std.specs.Prelude.{List, [], ◌∷◌, ◌++◌, map, Bool, true, false, if◌then◌else◌, ◌&&◌, ◌||◌, not, ℕ, Option, Some, None, codes}
+use Rattle.std.specs.Prelude.{List, [], ◌∷◌, ◌++◌, map, Bool, true, false, if◌then◌else◌, ◌&&◌, ◌||◌, ℕ, Option, Some, None, codes}
 use Rattle.unftp_control_defs.specs.Bytes.{Bytes}
 use Rattle.unftp_control_defs.specs.FtpCommand.{User, Pass}
 use Rattle.unftp_control_defs.specs.Events.{FtpEvent, Command, is_quit}
 use Rattle.unftp_control_defs.specs.FtpReply.{FtpReply, CodeAndMsg}
 use Rattle.unftp_control_defs.specs.Run.{SessionLaw, after}
+use Rattle.unftp_control_login.specs.declared.stage.LoginStep.{LoginStep}
+use Rattle.unftp_control_login.specs.declared.stage.LoginStep.TheVariants.{AskAccounts, NeedLogin, NeedName, NeedPassword, PassOn}
+use Rattle.unftp_control_login.specs.declared.stage.Progress.{Progress}
+use Rattle.unftp_control_login.specs.declared.stage.Progress.TheVariants.{LoggedIn, NoName}
+use Rattle.unftp_control_login.specs.declared.stage.Role.{Role}
 use Rattle.unftp_control_login.specs.declared.stage.Stage.{Stage}
-use Rattle.unftp_control_login.specs.declared.stage.Stage.TheVariants.{NoName, Named, LoggedIn}
-use Rattle.unftp_control_login.specs.Login.{Accounts, flushes_login, needs_login}
-use Rattle.unftp_control_login.specs.LoginLimit.{is_last, is_pass, is_used_up, one_fewer, too_many}
+use Rattle.unftp_control_login.specs.Login.{Accounts, after_answer, login_after, login_step, role_in}
+use Rattle.unftp_control_login.specs.LoginLimit.{is_last, is_used_up, one_fewer, too_many}
 use Rattle.unftp_control_login.specs.HandlerCalls.{Asks, AsksFurther, Call, FailsIn, Passes, Plan, makes, tells}
 
 -- its replies (RFC 959, section 5.4)
@@ -27,53 +31,89 @@ name_needed = CodeAndMsg 503 (codes "Send USER first")
 abbrev pub login_needed : FtpReply
 login_needed = CodeAndMsg 530 (codes "Log in with USER and PASS")
 
-abbrev pub is_logged_in : Stage → Bool
+abbrev pub is_logged_in : Progress → Bool
 is_logged_in LoggedIn = true
-is_logged_in stage = false
+is_logged_in progress = false
 
-abbrev pub stage_after_password : Accounts → Stage → Bytes → Stage
-stage_after_password accepts (Named name) password =
-    if accepts name password then LoggedIn else NoName
-stage_after_password accepts stage password = stage
+-- a login before the first event
+abbrev pub nobody : Stage
+nobody = record { progress = NoName; name = [] }
+
+-- what USER and PASS give
+abbrev pub name_in : FtpEvent → Bytes
+name_in (Command (User name)) = name
+name_in event = []
+
+abbrev pub password_in : FtpEvent → Bytes
+password_in (Command (Pass password)) = password
+password_in event = []
+
+-- a name is good for one password
+abbrev pub name_after : LoginStep → Bytes → FtpEvent → Bytes
+name_after NeedPassword name event = name_in event
+name_after AskAccounts name event = []
+name_after step name event = name
+
+-- where the login is after an answer of the accounts, where this step asks them
+abbrev pub answered_at : LoginStep → Bool → Progress → Progress
+answered_at AskAccounts accepted progress = after_answer accepted progress
+answered_at step accepted progress = progress
+
+abbrev pub answered_stage : LoginStep → Accounts → Stage → FtpEvent → Stage
+answered_stage step accepts stage event = record {
+  progress = answered_at step (accepts stage.name (password_in event)) stage.progress;
+  name = name_after step stage.name event;
+}
+
+-- and after an event that is this to it
+abbrev pub stage_by : Role → Accounts → Stage → FtpEvent → Stage
+stage_by role accepts stage event = answered_stage (login_step stage.progress role) accepts
+    (record stage { progress = login_after stage.progress role }) event
 
 abbrev pub stage_after : Accounts → Stage → FtpEvent → Stage
-stage_after accepts stage (Command (User name)) = Named name
-stage_after accepts stage (Command (Pass password)) = stage_after_password accepts stage password
-stage_after accepts stage event = if flushes_login event then NoName else stage
+stage_after accepts stage event = stage_by (role_in event) accepts stage event
 
--- an event that needs a login, and has none
-abbrev pub is_barred : Stage → FtpEvent → Bool
-is_barred stage event = needs_login event && not (is_logged_in stage)
+abbrev pub stage_after_all : Accounts → Stage → List FtpEvent → Stage
+stage_after_all accepts stage [] = stage
+stage_after_all accepts stage (event ∷ events) =
+    stage_after_all accepts (stage_after accepts stage event) events
 
--- What the gate does with an event: it answers it itself; it logs this name in, of which the
--- handler learns by USER; or it passes the event on, and all replies to it are the handler's.
+-- What the gate does with an event: it answers it itself, by which a login may be refused; it logs
+-- this name in, of which the handler learns by USER; or it passes the event on, and all replies to
+-- it are the handler's.
 pub data Decision : Type 0 where
   Answers : FtpReply → Decision
+  Refuses : FtpReply → Decision
   LogsIn : Bytes → Decision
   PassesOn : FtpEvent → Decision
 
-abbrev pub decided_by_password : Accounts → Stage → Bytes → Decision
-decided_by_password accepts (Named name) password =
-    if accepts name password then LogsIn name else Answers not_accepted
-decided_by_password accepts stage password = Answers name_needed
+abbrev pub decision_at : LoginStep → Accounts → Bytes → FtpEvent → Decision
+decision_at PassOn accepts name event = PassesOn event
+decision_at NeedPassword accepts name event = Answers password_needed
+decision_at AskAccounts accepts name event =
+    if accepts name (password_in event) then LogsIn name else Refuses not_accepted
+decision_at NeedName accepts name event = Refuses name_needed
+decision_at NeedLogin accepts name event = Answers login_needed
 
 abbrev pub decided : Accounts → Stage → FtpEvent → Decision
-decided accepts stage (Command (User name)) = Answers password_needed
-decided accepts stage (Command (Pass password)) = decided_by_password accepts stage password
 decided accepts stage event =
-    if is_barred stage event then Answers login_needed else PassesOn event
+    decision_at (login_step stage.progress (role_in event)) accepts stage.name event
 
--- A PASS that the gate answers itself is a login that fails. The last that may has another answer.
-abbrev pub is_refusal : Bool → Decision → Bool
-is_refusal at_pass (Answers reply) = at_pass
-is_refusal at_pass decision = false
+-- whether a step passes the event on
+abbrev pub passes_on : LoginStep → Bool
+passes_on PassOn = true
+passes_on step = false
 
-abbrev pub limited : Option ℕ → Bool → Decision → Decision
-limited left at_pass decision =
-    if is_refusal at_pass decision && is_last left then Answers too_many else decision
+-- A login that is refused is one that fails. The last that may has another answer.
+abbrev pub is_refusal : Decision → Bool
+is_refusal (Refuses reply) = true
+is_refusal decision = false
 
-abbrev pub attempts_after : Option ℕ → Bool → Decision → Option ℕ
-attempts_after left at_pass decision = if is_refusal at_pass decision then one_fewer left else left
+abbrev pub limited : Option ℕ → Decision → Decision
+limited left decision = if is_refusal decision && is_last left then Refuses too_many else decision
+
+abbrev pub attempts_after : Option ℕ → Decision → Option ℕ
+attempts_after left decision = if is_refusal decision then one_fewer left else left
 
 abbrev pub is_passed : Decision → Bool
 is_passed (PassesOn event) = true
@@ -83,18 +123,21 @@ is_passed decision = false
 module _ {S : Type 0} (law : SessionLaw S) (s : S) where
   abbrev pub reply_by : Decision → FtpReply
   reply_by (Answers reply) = reply
+  reply_by (Refuses reply) = reply
   reply_by (LogsIn name) = logged_in
   reply_by (PassesOn event) = law.says s event
 
   -- The handler's state after it: its replies to USER are dropped.
   abbrev pub state_by : Decision → S
   state_by (Answers reply) = s
+  state_by (Refuses reply) = s
   state_by (LogsIn name) = after law s (Command (User name))
   state_by (PassesOn event) = law.next s event
 
   -- what is called for the first reply
   abbrev pub calls_by : Decision → Plan S
   calls_by (Answers reply) = makes s (Some reply)
+  calls_by (Refuses reply) = makes s (Some reply)
   calls_by (LogsIn name) =
       tells law s (Command (User name))
       ++ makes (after law s (Command (User name))) (Some logged_in)
@@ -106,9 +149,12 @@ module _ {S : Type 0} (law : SessionLaw S) (s : S) where
   all_calls_by decision = calls_by decision
 
 -- What the accounts are asked: whether a password that comes after a name is that of the name.
+abbrev pub asked_at : LoginStep → Bytes → FtpEvent → List Call
+asked_at AskAccounts name event = Asks name (password_in event) ∷ []
+asked_at step name event = []
+
 abbrev pub questions : Stage → FtpEvent → List Call
-questions (Named name) (Command (Pass password)) = Asks name password ∷ []
-questions stage event = []
+questions stage event = asked_at (login_step stage.progress (role_in event)) stage.name event
 
 -- The accounts, which stay; how many more logins may fail, if they are limited; how far the login
 -- has come; whether QUIT has come; whether the event at hand was passed on; and what the handler
@@ -122,7 +168,7 @@ pub record Gated (S : Type 0) : Type 0 where
   pub inner : S
 
 abbrev pub decides : {S : Type 0} → Gated S → FtpEvent → Decision
-decides s event = limited s.left (is_pass event) (decided s.accepts s.stage event)
+decides s event = limited s.left (decided s.accepts s.stage event)
 
 -- the handler's replies are the gate's, of which nothing else changes
 abbrev pub passed_steps : {S : Type 0} → Gated S → List (FtpReply × S) → List (FtpReply × Gated S)
@@ -137,7 +183,7 @@ gated_law law = record {
   says = λ s event. reply_by law s.inner (decides s event);
   next = λ s event. record {
     accepts = s.accepts;
-    left = attempts_after s.left (is_pass event) (decided s.accepts s.stage event);
+    left = attempts_after s.left (decided s.accepts s.stage event);
     stage = stage_after s.accepts s.stage event;
     quit = s.quit || is_quit event;
     passed = is_passed (decides s event);
@@ -154,7 +200,7 @@ abbrev pub closed : {S : Type 0} → Accounts → S → Gated S
 closed accepts inner = record {
   accepts = accepts;
   left = None;
-  stage = NoName;
+  stage = nobody;
   quit = false;
   passed = false;
   inner = inner;

@@ -11,7 +11,7 @@ use Rattle.unftp_control_serve.specs.declared.output.Output.{Output}
 use Rattle.unftp_control_login.specs.Login.{Accounts}
 use Rattle.unftp_control_login.specs.HandlerCalls.{CallsMade}
 use Rattle.unftp_control_login.specs.CallsOf.{calls_of, failures_of}
-use Rattle.unftp_control_login.specs.Gate.{Decision, Gated, calls_by, decides, further_calls, gated_law, reply_by, state_by}
+use Rattle.unftp_control_login.specs.Gate.{Decision, Gated, calls_by, decides, further_calls, reply_by, state_by}
 use Rattle.unftp_control_login.specs.Asked.{AskedGate}
 use Rattle.unftp_control_login.specs.declared.inner.Inner.{Inner}
 use Rattle.unftp_control_login.specs.declared.gate.Gate.{Gate}
@@ -60,12 +60,3 @@ pub record Decided {H S : Type 0} (state : H → S) (failures : H → ℕ) (law 
   pub next : OnOk result (state after.handler ≡ state_by law (state before.handler) decision)
   pub calls : CallsMade law (calls_by law (state before.handler) decision)
       (calls_of failures before) (calls_of failures after) result
-
--- What the first reply to an event leaves of a gate.
-pub record GateAnswers {A H S : Type 0} (accepts : A → Accounts) (state : H → S)
-    (failures : H → ℕ) (law : SessionLaw S) (before after : Gate A H) (event : FtpEvent)
-    (result : Result Reply ControlChanError) : Type 0 where
-  pub decided : Decided state failures law before.inner after.inner
-      (decides (gated accepts state before) event) result
-  pub next : OnOk result (gated accepts state after
-      ≡ (gated_law law).next (gated accepts state before) event)

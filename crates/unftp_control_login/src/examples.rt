@@ -14,16 +14,18 @@ ghost use Rattle.unftp_control_message.specs.ErrorMeaning.{fault_of};
 ghost use Rattle.unftp_control_message.specs.declared.reply.error.ControlChanError.{ControlChanError as RustError};
 ghost use Rattle.unftp_control_serve.specs.Endings.{snapshot_with};
 ghost use Rattle.unftp_control_serve.specs.Writing.{appended_output};
-ghost use Rattle.unftp_control_login.specs.Login.{GaveName, HasLoggedIn, IsLoggedIn, flushes_login, needs_login};
-ghost use Rattle.unftp_control_login.specs.declared.stage.Stage.TheVariants.{LoggedIn, Named, NoName};
+ghost use Rattle.unftp_control_login.specs.Login.{GaveName, HasLoggedIn, IsLoggedIn, after_answer, flushes_login, login_after, login_step, needs_login, role_of};
+ghost use Rattle.unftp_control_login.specs.declared.stage.LoginStep.TheVariants.{AskAccounts, NeedLogin, NeedName, NeedPassword, PassOn};
+ghost use Rattle.unftp_control_login.specs.declared.stage.Progress.TheVariants.{Asked, LoggedIn, Named, NoName};
+ghost use Rattle.unftp_control_login.specs.declared.stage.Role.TheVariants.{Closed, Flush, Name, Open, Password};
 ghost use Rattle.unftp_control_login.specs.HandlerCalls.{AllCalled, Asks, AsksFurther, CallsMade, FailedCall, Makes, Passes, tells};
 ghost use Rattle.unftp_control_login.specs.Asked.{IsClosed, all_questions, asked_law, questions_for};
-ghost use Rattle.unftp_control_login.specs.Gate.{Answers, LogsIn, PassesOn, calls_by, closed, gated_law, logged_in, login_needed, name_needed, not_accepted, password_needed, questions};
+ghost use Rattle.unftp_control_login.specs.Gate.{Answers, LogsIn, PassesOn, Refuses, calls_by, closed, decided, gated_law, logged_in, login_needed, name_needed, nobody, not_accepted, password_needed, questions, stage_after, stage_after_all};
 ghost use Rattle.unftp_control_login.specs.GateState.{GateCalled};
 ghost use Rattle.unftp_control_login.specs.LoginLimit.{EndsWith, failed_in_run, is_failure, too_many};
 ghost use Rattle.unftp_control_login.specs.Promises.{AgreeOnAll, AllLookAlike, DifferInPasswords, FailsAlike, IsRefusedLogin, IsTurnedAway, LearnsName, LooksAlike, MembersAlone, NoFailure, PasswordFits, ReachesHandler, SendsPlainExchanges, ServesMembersAlone, gate_calls, guarded};
 ghost use Rattle.unftp_control_login.specs.SessionState.{snapshot};
-ghost use Rattle.unftp_control_login.specs.Examples.{anna, anna_and_ben, answers_once, ben, counting, gate_asked, here, inner_with, login, only_anna, opened, pass, secret, silent, so_far, transferring, user, wrong};
+ghost use Rattle.unftp_control_login.specs.Examples.{anna, anna_and_ben, answers_once, ben, counting, gate_asked, here, inner_with, login, only_anna, opened, pass, secret, silent, so_far, stage, transferring, user, wrong};
 
 /// Which events need a login, and which undo one.
 pub fn logins_are_needed()
@@ -39,6 +41,44 @@ pub fn logins_are_needed()
     ensures refused { needs_login (Refused line_too_long) ≡ false }
     ensures flushed { (flushes_login (user anna) ≡ true)
         × (flushes_login (Command (Auth Tls)) ≡ true) × (flushes_login (pass wrong) ≡ false) }
+{}
+
+/// What is done with an event, by how far the login has come: 14 is RETR, and 28 QUIT.
+pub fn logins_have_steps()
+    ensures closed { role_of 14 ≡ Closed }
+    ensures open { role_of 28 ≡ Open }
+    ensures no_verb { role_of 0 ≡ Closed }
+    ensures stranger { login_step NoName Closed ≡ NeedLogin }
+    ensures named { login_step Named Closed ≡ NeedLogin }
+    ensures member { login_step LoggedIn Closed ≡ PassOn }
+    ensures needs_none { login_step NoName Open ≡ PassOn }
+    ensures tls { login_step Named Flush ≡ PassOn }
+    ensures name { login_step LoggedIn Name ≡ NeedPassword }
+    ensures password { login_step Named Password ≡ AskAccounts }
+    ensures no_name { login_step NoName Password ≡ NeedName }
+{}
+
+/// How far a login has come after an event and an answer.
+pub fn logins_come_on()
+    ensures again { login_after LoggedIn Name ≡ Named }
+    ensures asked { login_after Named Password ≡ Asked }
+    ensures stays { login_after LoggedIn Password ≡ LoggedIn }
+    ensures flushed { login_after LoggedIn Flush ≡ NoName }
+    ensures late { login_after Asked Open ≡ NoName }
+    ensures accepted { after_answer true Asked ≡ LoggedIn }
+    ensures refused { after_answer false Asked ≡ NoName }
+    ensures not_asked { after_answer true Named ≡ Named }
+{}
+
+/// Where a login is, with its name, and what is decided there.
+pub fn logins_have_stages()
+    ensures named { stage_after only_anna nobody (user anna) ≡ stage Named anna }
+    ensures used { stage_after only_anna (stage Named anna) (pass wrong) ≡ nobody }
+    ensures member { stage_after_all only_anna nobody login ≡ stage LoggedIn [] }
+    ensures kept { stage_after only_anna (stage Named anna) (Command Noop) ≡ stage Named anna }
+    ensures accepted { decided only_anna (stage Named anna) (pass secret) ≡ LogsIn anna }
+    ensures refused { decided only_anna (stage Named anna) (pass wrong) ≡ Refuses not_accepted }
+    ensures open { decided only_anna nobody (Command Quit) ≡ PassesOn (Command Quit) }
 {}
 
 /// A client logs in with a name and its password, and with nothing less.
@@ -81,11 +121,11 @@ pub fn follow_ups_pass()
 
 /// What the accounts are asked: only about a password, of the name before it, and once.
 pub fn accounts_are_asked()
-    ensures asked { questions (Named anna) (pass secret) ≡ Asks anna secret ∷ [] }
-    ensures twice { questions (Named anna) (pass wrong)
+    ensures asked { questions (stage Named anna) (pass secret) ≡ Asks anna secret ∷ [] }
+    ensures twice { questions (stage Named anna) (pass wrong)
         ≡ Asks anna wrong ∷ Asks anna (wrong ++ codes "!") ∷ [] → ⊥ }
-    ensures no_name { (questions NoName (pass secret) ≡ [])
-        × (questions LoggedIn (pass secret) ≡ []) }
+    ensures no_name { (questions nobody (pass secret) ≡ [])
+        × (questions (stage LoggedIn []) (pass secret) ≡ []) }
 {}
 
 /// What a gate calls: the handler receives an event once, and is then asked for each
@@ -264,7 +304,7 @@ pub fn questions_are_asked()
     ensures over { questions_for None counting (closed only_anna 0)
         (codes "USER anna\r\nQUIT\r\nPASS secret\r\n") ≡ [] }
     ensures closed { IsClosed {S = ℕ} (guarded (Some 1) only_anna 0) }
-    ensures named { IsClosed {S = ℕ} (record (closed only_anna 0) { stage = Named anna }) → ⊥ }
+    ensures named { IsClosed {S = ℕ} (record (closed only_anna 0) { stage = stage Named anna }) → ⊥ }
     ensures quit { IsClosed {S = ℕ} (record (closed only_anna 0) { quit = true }) → ⊥ }
     ensures passed { IsClosed {S = ℕ} (record (closed only_anna 0) { passed = true }) → ⊥ }
 {}

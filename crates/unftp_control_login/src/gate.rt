@@ -1,25 +1,22 @@
 //! A login gate before a handler.
-ghost use Rattle.std.specs.Prelude.{◌≡◌, ◌++◌, ◌||◌, if◌then◌else◌, false, true, [], List, IsTrue, None, OnErr, OnOk};
-ghost use Rattle.unftp_control_defs.specs.Events.{is_quit};
-ghost use Rattle.unftp_control_defs.specs.Events as event;
-ghost use Rattle.unftp_control_defs.specs.FtpCommand.{Pass};
+ghost use Rattle.std.specs.Prelude.{◌≡◌, ◌++◌, false, true, [], List, IsTrue, None, OnErr, OnOk};
 ghost use Rattle.unftp_control_defs.specs.FtpReply.{CodeAndMsg};
 ghost use Rattle.unftp_control_serve.specs.Answering.{FirstAnswer, FurtherAnswer};
 ghost use Rattle.unftp_control_serve.specs.EventMeaning.{event_meant};
 ghost use Rattle.unftp_control_serve.specs.Writing.{Begins};
 ghost use Rattle.unftp_control_message.specs.ReplyMeaning.{number_of};
-ghost use Rattle.unftp_control_login.specs.Login.{flushes_login, is_login, needs_login};
+ghost use Rattle.unftp_control_login.specs.Login.{after_answer, role_in};
 ghost use Rattle.unftp_control_login.specs.LoginLimit.{one_fewer};
 ghost use Rattle.unftp_control_login.specs.CallsOf.{failures_of};
 ghost use Rattle.unftp_control_login.specs.Asked.{AskedGate, asked_law};
-ghost use Rattle.unftp_control_login.specs.Gate.{Answers, LogsIn, PassesOn, is_barred, is_logged_in, limited, questions};
-ghost use Rattle.unftp_control_login.specs.GateState.{Decided, GateAnswers, GateAsked, GateCalled, asked_gate, gated};
+ghost use Rattle.unftp_control_login.specs.Gate.{LogsIn, Refuses, answered_stage, asked_at, attempts_after, decision_at, is_logged_in, limited, name_in, nobody, password_in, questions};
+ghost use Rattle.unftp_control_login.specs.GateState.{Decided, GateAsked, GateCalled, asked_gate, gated};
 
 use crate::accounts::Accounts;
 use crate::asked::AskedAccounts;
 use crate::inner::Inner;
 use crate::limit::LoginLimit;
-use crate::stage::Stage;
+use crate::stage::{LoginStep, Progress, Role, Stage};
 use bytes::Bytes;
 use std::alloc::Global;
 use std::mem;
@@ -62,7 +59,7 @@ impl<A: Accounts, H: Session> Gate<A, H> {
         ensures accounts { result.accounts.accounts ≡ accounts }
         ensures questions { result.accounts.questions ≡ [] }
         ensures left { result.limit.left ≡ None }
-        ensures stage { result.stage ≡ Stage.NoName }
+        ensures stage { result.stage ≡ nobody }
         ensures quit { result.quit ≡ false }
         ensures passed { result.passed ≡ false }
         ensures inner { result.inner.handler ≡ inner }
@@ -71,7 +68,10 @@ impl<A: Accounts, H: Session> Gate<A, H> {
         Gate {
             accounts: AskedAccounts::new(accounts),
             limit: LoginLimit::none(),
-            stage: Stage::NoName,
+            stage: Stage {
+                progress: Progress::NoName,
+                name: Bytes::new(),
+            },
             quit: false,
             passed: false,
             inner: Inner::new(inner),
@@ -101,8 +101,8 @@ impl<A: Accounts, H: Session> Gate<A, H> {
     ) -> Result<Reply, ControlChanError>
         ensures handler { self.new.inner.handler ≡ self.old.inner.handler }
         ensures decided { (heard : List H.Heard) → Decided H.state H.failures (H.law heard)
-            self.old.inner self.new.inner (limited self.old.limit.left true
-            (Answers (CodeAndMsg (number_of code) text.now))) result }
+            self.old.inner self.new.inner (limited self.old.limit.left
+            (Refuses (CodeAndMsg (number_of code) text.now))) result }
         ensures left { self.new.limit.left ≡ one_fewer self.old.limit.left }
         ensures kept { (self.new.accounts ≡ self.old.accounts)
             × (self.new.stage ≡ self.old.stage) × (self.new.quit ≡ self.old.quit)
@@ -118,38 +118,15 @@ impl<A: Accounts, H: Session> Gate<A, H> {
         self.inner.own_reply(alloc, code, text)
     }
 
-    /// Takes a password for the name that was given.
-    fn take_password(&mut self, alloc: Global, password: &[u8]) -> Result<Reply, ControlChanError>
-        ensures heard { Begins (H.heard self.new.inner.handler) (H.heard self.old.inner.handler) }
-        ensures answers { (heard : List H.Heard) → Begins heard (H.heard self.new.inner.handler)
-            → GateAnswers A.accepts H.state H.failures (H.law heard) self.old self.new
-            (event.Command (Pass password.now)) result }
-        ensures asked { self.new.accounts.questions ≡ self.old.accounts.questions
-            ++ questions self.old.stage (event.Command (Pass password.now)) }
-        ensures nobody { OnErr result (IsTrue (is_logged_in self.new.stage)
-            → IsTrue (is_logged_in self.old.stage)) }
-    {
-        self.passed = false;
-        let username = match mem::replace(&mut self.stage, Stage::NoName) {
-            Stage::Named(name) => name,
-            other => {
-                self.stage = other;
-                return self.refuse(alloc, ReplyCode::BadCommandSequence, "Send USER first");
-            }
-        };
-        if !self.accounts.ask(username.as_slice(), password) {
-            return self.refuse(alloc, ReplyCode::NotLoggedIn, "Login incorrect");
-        }
-        self.admit(alloc, username)
-    }
-
     /// Lets the handler know who has logged in. Nobody has where it fails.
     fn admit(&mut self, alloc: Global, username: Bytes) -> Result<Reply, ControlChanError>
         ensures heard { Begins (H.heard self.new.inner.handler) (H.heard self.old.inner.handler) }
         ensures decided { (heard : List H.Heard) → Begins heard (H.heard self.new.inner.handler)
             → Decided H.state H.failures (H.law heard) self.old.inner self.new.inner
             (LogsIn username) result }
-        ensures stage { OnOk result (self.new.stage ≡ Stage.LoggedIn) }
+        ensures stage { OnOk result (self.new.stage ≡ record self.old.stage {
+          progress = after_answer true self.old.stage.progress;
+        }) }
         ensures nobody { OnErr result (self.new.stage ≡ self.old.stage) }
         ensures kept { (self.new.accounts ≡ self.old.accounts)
             × (self.new.limit ≡ self.old.limit) × (self.new.quit ≡ self.old.quit)
@@ -161,61 +138,63 @@ impl<A: Accounts, H: Session> Gate<A, H> {
             .inner
             .own_reply(alloc, ReplyCode::UserLoggedIn, "User logged in, proceed");
         if reply.is_ok() {
-            self.stage = Stage::LoggedIn;
+            self.stage.progress = self.stage.progress.answered(true);
         }
         reply
     }
 
-    /// Whether an event needs a login, and there is none.
-    fn bars(&self, event: &Event) -> bool
-        ensures { result ≡ is_barred self.now.stage (event_meant event.now) }
-    {
-        needs_login(event) && !self.stage.is_logged_in()
-    }
-
-    /// Takes an event that is neither USER nor PASS.
-    fn take_other(&mut self, alloc: Global, event: Event) -> Result<Reply, ControlChanError>
-        requires { is_login (event_meant event) ≡ false }
-        ensures heard { Begins (H.heard self.new.inner.handler) (H.heard self.old.inner.handler) }
-        ensures answers { (heard : List H.Heard) → Begins heard (H.heard self.new.inner.handler)
-            → GateAnswers A.accepts H.state H.failures (H.law heard) self.old self.new
-            (event_meant event) result }
-        ensures asked { self.new.accounts.questions ≡ self.old.accounts.questions
-            ++ questions self.old.stage (event_meant event) }
-        ensures nobody { OnErr result (IsTrue (is_logged_in self.new.stage)
-            → IsTrue (is_logged_in self.old.stage)) }
-    {
-        if self.bars(&event) {
-            drop(event);
-            self.passed = false;
-            return self
-                .inner
-                .own_reply(alloc, ReplyCode::NotLoggedIn, "Log in with USER and PASS");
-        }
-        self.pass_on(alloc, event)
-    }
-
-    /// Passes an event on to the handler. It flushes the login or ends the session, also where the
-    /// handler fails.
-    fn pass_on(&mut self, alloc: Global, event: Event) -> Result<Reply, ControlChanError>
+    /// Does what a step says with its event. The progress is already that after the event.
+    fn take(
+        &mut self,
+        alloc: Global,
+        step: LoginStep,
+        event: Event,
+    ) -> Result<Reply, ControlChanError>
         ensures heard { Begins (H.heard self.new.inner.handler) (H.heard self.old.inner.handler) }
         ensures decided { (heard : List H.Heard) → Begins heard (H.heard self.new.inner.handler)
             → Decided H.state H.failures (H.law heard) self.old.inner self.new.inner
-            (PassesOn (event_meant event)) result }
-        ensures stage { self.new.stage
-            ≡ (if flushes_login (event_meant event) then Stage.NoName else self.old.stage) }
-        ensures quit { self.new.quit ≡ (self.old.quit || is_quit (event_meant event)) }
-        ensures kept { (self.new.accounts ≡ self.old.accounts)
-            × (self.new.limit ≡ self.old.limit) × (self.new.passed ≡ true) }
+            (limited self.old.limit.left (decision_at step
+            (A.accepts self.old.accounts.accounts) self.old.stage.name (event_meant event)))
+            result }
+        ensures left { self.new.limit.left ≡ attempts_after self.old.limit.left (decision_at step
+            (A.accepts self.old.accounts.accounts) self.old.stage.name (event_meant event)) }
+        ensures stage { OnOk result (self.new.stage ≡ answered_stage step
+            (A.accepts self.old.accounts.accounts) self.old.stage (event_meant event)) }
+        ensures nobody { OnErr result (IsTrue (is_logged_in self.new.stage.progress)
+            → IsTrue (is_logged_in self.old.stage.progress)) }
+        ensures asked { self.new.accounts.questions ≡ self.old.accounts.questions
+            ++ asked_at step self.old.stage.name (event_meant event) }
+        ensures kept { (self.new.accounts.accounts ≡ self.old.accounts.accounts)
+            × (self.new.quit ≡ self.old.quit) × (self.new.passed ≡ self.old.passed) }
     {
-        self.passed = true;
-        if flushes_login(&event) {
-            self.stage = Stage::NoName;
+        match step {
+            LoginStep::PassOn => self.inner.pass_on(alloc, event),
+            LoginStep::NeedPassword => {
+                self.stage.name = name_in(event);
+                self.inner.own_reply(
+                    alloc,
+                    ReplyCode::NeedPassword,
+                    "User name okay, need password",
+                )
+            }
+            LoginStep::AskAccounts => {
+                let username = mem::replace(&mut self.stage.name, Bytes::new());
+                let password = password_in(&event);
+                if self.accounts.ask(username.as_slice(), password) {
+                    return self.admit(alloc, username);
+                }
+                self.stage.progress = self.stage.progress.answered(false);
+                self.refuse(alloc, ReplyCode::NotLoggedIn, "Login incorrect")
+            }
+            LoginStep::NeedName => {
+                self.refuse(alloc, ReplyCode::BadCommandSequence, "Send USER first")
+            }
+            LoginStep::NeedLogin => {
+                drop(event);
+                self.inner
+                    .own_reply(alloc, ReplyCode::NotLoggedIn, "Log in with USER and PASS")
+            }
         }
-        if event.is_quit() {
-            self.quit = true;
-        }
-        self.inner.pass_on(alloc, event)
     }
 }
 
@@ -253,24 +232,15 @@ impl<A: Accounts, H: Session> Session for Gate<A, H> {
         ensures calls { (heard : List H.Heard) → Begins heard (H.heard self.new.inner.handler)
             → GateCalled H.failures (H.law heard) (gated A.accepts H.state self.old)
             self.old.inner (event_meant event) self.new.inner result }
-        ensures nobody { OnErr result (IsTrue (is_logged_in self.new.stage)
-            → IsTrue (is_logged_in self.old.stage)) }
+        ensures nobody { OnErr result (IsTrue (is_logged_in self.new.stage.progress)
+            → IsTrue (is_logged_in self.old.stage.progress)) }
     {
-        match event {
-            Event::Command(Command::User { username }) => {
-                self.passed = false;
-                self.stage = Stage::Named(username);
-                self.inner.own_reply(
-                    alloc,
-                    ReplyCode::NeedPassword,
-                    "User name okay, need password",
-                )
-            }
-            Event::Command(Command::Pass { password }) => {
-                self.take_password(alloc, password.as_ref())
-            }
-            event => self.take_other(alloc, event),
-        }
+        let role = role_in(&event);
+        let step = self.stage.progress.step(role);
+        self.stage.progress = self.stage.progress.after(role);
+        self.passed = step.passes_on();
+        self.quit |= event.is_quit();
+        self.take(alloc, step, event)
     }
 
     /// The handler's next reply to an event that was passed on, for which it is asked, once
@@ -299,34 +269,35 @@ impl<A: Accounts, H: Session> Session for Gate<A, H> {
     }
 }
 
-/// Whether an event needs a login.
-fn needs_login(event: &Event) -> bool
-    ensures { result ≡ needs_login (event_meant event.now) }
+/// What an event is to a login.
+fn role_in(event: &Event) -> Role
+    ensures { result ≡ role_in (event_meant event.now) }
 {
     match event {
-        Event::Refused(_) => false,
-        Event::Command(command) => !matches!(
-            command,
-            Command::User { .. }
-                | Command::Pass { .. }
-                | Command::Quit
-                | Command::Auth { .. }
-                | Command::Pbsz {}
-                | Command::Prot { .. }
-                | Command::Feat
-                | Command::Help
-                | Command::Noop
-                | Command::Syst
-        ),
+        Event::Command(command) => Role::of(command.parts().verb.number()),
+        Event::Refused(_) => Role::Open,
     }
 }
 
-/// Whether the client has to log in again after an event.
-fn flushes_login(event: &Event) -> bool
-    ensures { result ≡ flushes_login (event_meant event.now) }
+/// The name of USER; of another event none.
+fn name_in(event: Event) -> Bytes
+    ensures { result ≡ name_in (event_meant event) }
 {
-    matches!(
-        event,
-        Event::Command(Command::User { .. } | Command::Auth { .. })
-    )
+    match event {
+        Event::Command(Command::User { username }) => username,
+        other => {
+            drop(other);
+            Bytes::new()
+        }
+    }
+}
+
+/// The password of PASS; of another event none.
+fn password_in(event: &Event) -> &[u8]
+    ensures { result.now ≡ password_in (event_meant event.now) }
+{
+    match event {
+        Event::Command(Command::Pass { password }) => password.as_ref(),
+        _ => &[],
+    }
 }

@@ -17,3 +17,4 @@ pub use accounts::Accounts;
 pub use gate::Gate;
 pub use limit::LoginLimit;
 pub use members::serve_members;
+pub use stage::{LoginStep, Progress, Role};

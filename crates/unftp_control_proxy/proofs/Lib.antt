@@ -2,6 +2,4 @@ pub mod AnswerLemmas
 pub mod SendLemmas
 pub mod TrafficLemmas
 pub mod CallLemmas
-pub mod FilterLemmas
-pub mod RelayLemmas
 pub mod ExampleLemmas

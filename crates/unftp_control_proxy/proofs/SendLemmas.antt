@@ -1,17 +1,61 @@
--- Why a line is not sent.
+-- A clear line is one line; and why a line is not sent.
 use Rattle.std.specs.Global.{Vec}
-use Rattle.std.specs.Prelude.{IfErr, OnErr}
-use Rattle.std.proofs.Common.{Result, Ok, Err, OnOk, ◌≡◌, ℕ, [], ◌∷◌, ◌++◌, length, length-append, drop, take, arith, ap, subst, ◌∙◌}
+use Rattle.std.specs.Prelude.{◌-◌, ◌&&◌, IfErr, OnErr, bytes_eq}
+use Rattle.std.specs.List.{list_all}
+use Rattle.std.proofs.Common.{Result, Ok, Err, OnOk, ◌≡◌, ℕ, Bool, true, false, [], ◌∷◌, ◌++◌, length, length-append, append_assoc, drop, take, arith, ap, refl, sym, subst, ◌∙◌}
+use Rattle.std.proofs.lemmas.Bool.{false≢true}
+use Rattle.std.proofs.lemmas.List.{take-append-drop}
+use Rattle.std.proofs.lemmas.Slice.Eq.{bytes_eq-Decides}
 use Rattle.std.proofs.Math.Seq.{drop-append_seam, take-append_seam}
-use Rattle.unftp_control_defs.specs.Bytes.{Bytes, LF}
+use Rattle.unftp_control_defs.specs.Bytes.{Bytes, CR, LF, Lacks, crlf}
 use Rattle.unftp_control_defs.specs.Forwarded.{forwarded_line}
 use Rattle.unftp_control_defs.specs.Lines.{IsLine}
+use Rattle.unftp_control_defs.proofs.LackLemmas.{Lacks-append}
+use Rattle.unftp_control_write.specs.ClearLines.{has_clear_verb, is_clear, is_plain, is_plain_line}
 use Rattle.unftp_control_write.specs.Forwarding.{IsForwardError, IsForwarded, LacksRoomFor}
 use Rattle.unftp_control_write.specs.declared.forwarding.ForwardError.{ForwardError}
 use Rattle.unftp_control_write.specs.declared.forwarding.ForwardError.TheVariants as forward
 use Rattle.unftp_control_proxy.specs.ProxyCalls.{IsAppendedError, IsDecidable, IsForwardingError, ProxyState, send_error}
 use Rattle.unftp_control_proxy.specs.declared.errors.SendError.{SendError}
 use Rattle.unftp_control_proxy.specs.declared.errors.SendError.TheVariants as send
+
+-- ---- a clear line is one line
+
+both : (s t : Bool) → (s && t) ≡ true → (s ≡ true) × (t ≡ true)
+both true t e = (refl, e)
+both false t e = absurd (cc)
+
+plain_lacks : (text : Bytes) → list_all is_plain text ≡ true → Lacks LF text
+plain_lacks [] plain = tt
+plain_lacks (b ∷ text) plain = (by_byte, plain_lacks text each.1)
+  where
+    each : (is_plain b ≡ true) × (list_all is_plain text ≡ true)
+    each = both (is_plain b) (list_all is_plain text) plain
+
+    by_byte : b ≡ LF → ⊥
+    by_byte e = let first = each.0 in false≢true (rw e at first)
+
+bytes_eq_is : (a b : Bytes) → bytes_eq a b ≡ true → a ≡ b
+bytes_eq_is a b e = (bytes_eq-Decides a b).0 e
+
+pub clear_is_line : (line : Bytes) → is_clear line ≡ true → IsLine line
+clear_is_line line clear = record {
+  body = take (length line - 2) line ++ CR ∷ [];
+  whole = sym (take-append-drop (length line - 2) line)
+      ∙ ap (λ end. take (length line - 2) line ++ end) ends
+      ∙ sym (append_assoc (take (length line - 2) line) (CR ∷ []) (LF ∷ []));
+  one_end = Lacks-append LF (take (length line - 2) line) (CR ∷ [])
+      (plain_lacks (take (length line - 2) line) plain.0) ((λ e. omega arith), tt);
+}
+  where
+    plain : (list_all is_plain (take (length line - 2) line) ≡ true)
+        × (bytes_eq (drop (length line - 2) line) crlf ≡ true)
+    plain = both _ _ (both (has_clear_verb line) (is_plain_line line) clear).1
+
+    ends : drop (length line - 2) line ≡ crlf
+    ends = bytes_eq_is (drop (length line - 2) line) crlf plain.1
+
+-- ---- why a line is not sent
 
 module _ (proxy : ProxyState) (line : Bytes) (out : Vec ℕ) where
   pub not_forwarded : {T : Type 0} (result : Result T ForwardError) → IsDecidable proxy

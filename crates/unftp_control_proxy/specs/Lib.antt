@@ -2,5 +2,3 @@
 pub mod ProxyAnswers
 pub mod ProxyCalls
 pub mod Traffic
-pub mod Filtering
-pub mod Relaying

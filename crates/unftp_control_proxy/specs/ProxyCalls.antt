@@ -113,16 +113,6 @@ pub record MayBeSent (limit : ℕ) (line : Bytes) : Type 0 where
   pub short : length line ≤ limit
   pub clear : is_clear line ≡ true
 
-abbrev pub is_out_of_memory : SendError → Bool
-is_out_of_memory send.OutOfMemory = true
-is_out_of_memory _ = false
-
--- the line could be sent once there is memory, or were fewer sent: no other answer is due for it
-abbrev pub stops : SendError → Bool
-stops send.OutOfMemory = true
-stops send.TooManyCommands = true
-stops _ = false
-
 -- as many lines were sent as are counted
 abbrev pub IsFull : Dialogue → Type 0
 IsFull dialogue = dialogue.sent ≡ 2 ^ 64 - 1

@@ -1,7 +1,8 @@
 //! The answers of a proxy's own.
-ghost use Rattle.std.specs.Prelude.{◌≡◌, ◌++◌, IfErr, IsOk, OnErr, OnOk, true};
+ghost use Rattle.std.specs.Prelude.{◌≡◌, ◌++◌, IfErr, IsOk, OnErr, OnOk, false, true};
 ghost use Rattle.unftp_control_defs.specs.FtpReply.{encoded};
 ghost use Rattle.unftp_control_defs.specs.Room.{LacksRoom};
+ghost use Rattle.unftp_control_defs.specs.Turns.{is_preliminary};
 ghost use Rattle.unftp_control_message.specs.ReplyMeaning.{reply_of};
 ghost use Rattle.unftp_control_proxy.specs.ProxyAnswers.{IsNoAnswer, answer_reply, is_answer, is_final_reply};
 
@@ -35,6 +36,17 @@ impl Answer {
         }
     }
 
+    /// Its code.
+    pub(crate) fn code(&self) -> u32
+        ensures { is_answer (answer_reply self.now) ≡ true → is_preliminary result ≡ false }
+    {
+        match self {
+            Answer::Reply(reply) => code_of(reply),
+            Answer::NotUnderstood => 500,
+            Answer::LineTooLong => 500,
+        }
+    }
+
     /// Appends its bytes, or nothing where there is no room for them.
     pub(crate) fn append_to(&self, out: &mut Vec<u8>) -> Result<(), AllocError>
         ensures ok { OnOk result
@@ -47,6 +59,16 @@ impl Answer {
             Answer::NotUnderstood => append(out, b"500 Not understood\r\n"),
             Answer::LineTooLong => append(out, b"500 Line too long\r\n"),
         }
+    }
+}
+
+/// The code of the reply.
+fn code_of(reply: &Reply) -> u32
+    ensures { is_answer (reply_of reply.now) ≡ true → is_preliminary result ≡ false }
+{
+    match reply {
+        Reply::None => 0,
+        Reply::CodeAndMsg { code, .. } | Reply::MultiLine { code, .. } => code.number(),
     }
 }
 

@@ -1,6 +1,4 @@
 //! Why a line is not decided, and why a reply is not replaced.
-ghost use Rattle.std.specs.Prelude.{◌≡◌};
-ghost use Rattle.unftp_control_proxy.specs.ProxyCalls.{is_out_of_memory};
 
 use thiserror::Error;
 use unftp_control_codecs::line_parser::ParseError;
@@ -38,15 +36,6 @@ pub enum SendError {
     /// An allocation failed.
     #[error("out of memory")]
     OutOfMemory,
-}
-
-impl SendError {
-    /// Whether an allocation failed: the line may be decided again.
-    pub fn is_out_of_memory(&self) -> bool
-        ensures { result ≡ is_out_of_memory self.now }
-    {
-        matches!(self, SendError::OutOfMemory)
-    }
 }
 
 /// Why no other reply is given in place of the server's.

@@ -2,7 +2,7 @@
 #![tactic(auto, unfolding(unftp_control_defs::proofs::Computing::at_bytes))]
 
 ghost use Rattle.std.specs.Global.{Vec};
-ghost use Rattle.std.specs.Prelude.{◌≡◌, ◌∷◌, ◌++◌, ◌+◌, ◌-◌, ◌^◌, ◌<◌, ℕ, List, [], Some, None, codes, false, true, vec_capacity, vec_len};
+ghost use Rattle.std.specs.Prelude.{◌≡◌, ◌∷◌, ◌++◌, ◌+◌, ◌-◌, ◌^◌, ◌<◌, ℕ, [], Some, None, codes, false, true, vec_capacity, vec_len};
 ghost use Rattle.unftp_control_defs.specs.Bytes.{Bytes};
 ghost use Rattle.unftp_control_defs.specs.FtpReply.{CodeAndMsg, MultiLine, Nothing, encoded};
 ghost use Rattle.unftp_control_defs.specs.Lines.{lines_of};
@@ -17,15 +17,12 @@ ghost use Rattle.unftp_control_proxy.specs.ProxyAnswers.{IsFinalReply, is_answer
 ghost use Rattle.unftp_control_serve.specs.ClientLines.{after_front_line, first_client_line, front_line, unless_too_long};
 ghost use Rattle.unftp_control_serve.specs.Decoder.{found_as, line_in, no_bytes, pushed, without_line};
 ghost use Rattle.unftp_control_serve.specs.declared.decoder.ClientLine.TheVariants as ClientLine;
-ghost use Rattle.unftp_control_proxy.specs.ProxyCalls.{AnsweredBy, Fate, GivesNext, GivesOther, IsAnswerError, IsAppendedError, IsCheckError, IsDecidable, IsForwardingError, IsGiven, IsNextError, IsReplaceError, IsSendError, IsUnclearError, IsUnsent, MayBeSent, ProxyState, ReplyBytes, SentAs, after_fate, is_due, new_proxy, server_owes, stops, waits, with_settled};
+ghost use Rattle.unftp_control_proxy.specs.ProxyCalls.{AnsweredBy, BeginsTls, GivesNext, GivesOther, IsAnswerError, IsAppendedError, IsCheckError, IsDecidable, IsForwardingError, IsGiven, IsNextError, IsReplaceError, IsSendError, IsUnclearError, IsUnsent, MayBeSent, ProxyState, ReplyBytes, SentAs, is_due, new_proxy, server_owes, waits, with_settled};
 ghost use Rattle.unftp_control_proxy.specs.Traffic.{ChangesNothing, GivesOwn, GivesReply, SendsLine, client_replies, fates_in, given_in, one_line, one_reply};
-ghost use Rattle.unftp_control_proxy.specs.Filtering.{AsItIs, Becomes, Forward, Instead, IsAsked, Reply, Send, fate_by, long_line, refused_line, step_for, told_of};
-ghost use Rattle.unftp_control_proxy.specs.Relaying.{FailsSo, IsEnd, IsSettled, LacksRoomToGive, RelayState};
 ghost use Rattle.unftp_control_proxy.specs.declared.errors.ReplaceError.TheVariants as ReplaceError;
 ghost use Rattle.unftp_control_proxy.specs.declared.errors.SendError.TheVariants as SendError;
 ghost use Rattle.unftp_control_proxy.specs.declared.proxy.Limits.{Limits as RustLimits};
 ghost use Rattle.unftp_control_proxy.specs.declared.proxy.NextReply.TheVariants.{Answered, Passed, Unasked};
-ghost use Rattle.unftp_control_proxy.specs.declared.relay.End.TheVariants as End;
 
 /// Lines that are clear, and others.
 pub fn lines_are_clear()
@@ -131,8 +128,6 @@ pub fn errors_have_reasons()
         → ¬ IsReplaceError proxy [] out ReplaceError.NotOwed }
     ensures short { (proxy : ProxyState) (out : Vec ℕ) → proxy.limits.sent ≡ 6
         → ¬ IsUnclearError proxy (codes "NOOP\r\n") out SendError.TooLong }
-    ensures full { stops SendError.TooManyCommands ≡ true }
-    ensures not_sent { stops SendError.TooLong ≡ false }
 {}
 
 /// Why a line is not sent: here six bytes, which may be sent where it is decidable.
@@ -195,20 +190,6 @@ pub fn replacing_fails()
         → IsNextError proxy out NextReplyError.Malformed }
     ensures due { (proxy : ProxyState) (out : Vec ℕ) → is_due proxy ≡ true
         → ¬ IsNextError proxy out NextReplyError.Malformed }
-{}
-
-/// Why a call of a relay fails: there is no room for what is to be given, here 20 bytes; or the
-/// filter is asked.
-pub fn relays_fail()
-    ensures no_room { (state : RelayState ℕ) (out : Vec ℕ)
-        → out.items ≡ state.to_client → state.proxy.answer ≡ Some refused_reply
-        → state.proxy.dialogue ≡ after_reply new_dialogue 220
-        → vec_capacity out < vec_len out + 20 → LacksRoomToGive state }
-    ensures nothing_to_give { (state : RelayState ℕ) → state.proxy.answer ≡ None
-        → state.proxy.server.bytes ≡ [] → ¬ LacksRoomToGive state }
-    ensures asked { (state : RelayState ℕ) → IsAsked state.proxy → FailsSo state }
-    ensures not_asked { (state : RelayState ℕ) → state.proxy.answer ≡ None
-        → state.proxy.server.bytes ≡ [] → waits state.proxy ≡ true → ¬ FailsSo state }
 {}
 
 /// What `next_reply` and `replace_reply` give: a whole reply, or another of its code.
@@ -276,72 +257,27 @@ pub fn lines_are_found()
         (Some ClientLine.Complete) 6)).bytes ≡ codes "QU" }
 {}
 
-/// What is to be done with a line of which something was decided.
-pub fn lines_have_a_step()
-    ensures forwarded { step_for Forward (codes "noop\n") ≡ Send (codes "NOOP\r\n") }
-    ensures no_command { step_for Forward (codes "NOOP x\r\n") ≡ Reply refused_reply }
-    ensures as_it_is { step_for AsItIs (codes "NOOP x\r\n") ≡ Send (codes "NOOP x\r\n") }
-    ensures instead { step_for (Instead (codes "PWD\r\n")) (codes "NOOP\r\n")
-        ≡ Send (codes "PWD\r\n") }
-{}
-
-/// What becomes of it: a line is sent up to the limit, and only where it is clear.
-pub fn steps_have_a_fate()
-    ensures sent { fate_by 6 (Send (codes "NOOP\r\n")) ≡ SentAs (codes "NOOP\r\n") }
-    ensures too_long { fate_by 5 (Send (codes "NOOP\r\n")) ≡ long_line }
-    ensures unclear { fate_by 6 (Send (codes "NO\rP\r\n")) ≡ refused_line }
-    ensures no_line { fate_by 6 (Send (codes "NOOP")) ≡ refused_line }
-    ensures final_reply { fate_by 6 (Reply (CodeAndMsg 200 (codes "OK")))
-        ≡ AnsweredBy (CodeAndMsg 200 (codes "OK")) }
-    ensures preliminary { fate_by 6 (Reply (CodeAndMsg 199 (codes "OK"))) ≡ refused_line }
-    ensures none { fate_by 6 (Reply Nothing) ≡ refused_line }
-    ensures two_replies { fate_by 6 (Reply (CodeAndMsg 200 (codes "a\r\n200 b"))) ≡ refused_line }
-{}
-
-/// What the client is told of a line that is not sent, and what the proxy then has.
-pub fn fates_are_told()
-    ensures too_long { told_of SendError.TooLong ≡ long_line }
-    ensures unclear { told_of SendError.Unclear ≡ refused_line }
-    ensures taken { (proxy : ProxyState) → Becomes (SentAs (codes "NOOP\r\n")) proxy
-        (codes "A\r\n") (codes "A\r\nNOOP\r\n") (after_fate proxy (SentAs (codes "NOOP\r\n"))) }
-    ensures not_sent { (proxy later : ProxyState)
-        → ¬ Becomes (SentAs (codes "NOOP\r\n")) proxy [] [] later }
-    ensures sent_too { (proxy later : ProxyState)
-        → ¬ Becomes long_line proxy [] (codes "NOOP\r\n") later }
-{}
-
-/// When a client was given all that it can be given, and when a relay ends.
-pub fn relays_settle()
-    ensures owed { (proxy : ProxyState) → proxy.dialogue ≡ new_dialogue
-        → ¬ IsEnd proxy (End.Unasked 421) }
+/// When nothing is given, and when all was given that can be: here an answer of 20 bytes is due.
+pub fn all_is_given()
+    ensures no_room { (proxy : ProxyState) (out : Vec ℕ) → proxy.answer ≡ Some refused_reply
+        → proxy.dialogue ≡ after_reply new_dialogue 220 → vec_capacity out < vec_len out + 20
+        → IsNextError proxy out NextReplyError.OutOfMemory }
+    ensures nothing_to_give { (proxy : ProxyState) (out : Vec ℕ) → proxy.answer ≡ None
+        → proxy.server.bytes ≡ [] → ¬ IsNextError proxy out NextReplyError.OutOfMemory }
     ensures not_given { (proxy : ProxyState) → is_due proxy ≡ true → ¬ IsGiven proxy }
     ensures given_is_kept { (proxy : ProxyState) → proxy.server.bytes ≡ []
         → proxy.server.buffered ≡ 7 → ¬ IsGiven proxy }
     ensures settled { (limits : RustLimits) (server : PendingReplies) → with_settled
         (record (new_proxy limits) { server = record server { bytes = codes "2"; buffered = 8 } })
         ≡ record (new_proxy limits) { server = record server { bytes = codes "2"; buffered = 1 } } }
-    ensures line_left { (proxy : ProxyState) → waits proxy ≡ false
-        → proxy.client.bytes ≡ codes "NOOP\r\n" → ¬ IsSettled proxy }
-    ensures asked { (limits : RustLimits) → let proxy : ProxyState =
-        new_proxy (record limits { line = 6; waiting = 2 }) in IsAsked (record proxy {
-          client = record proxy.client { bytes = codes "NOOP\r\n" };
-        }) }
-    ensures too_long { (limits : RustLimits) → let proxy : ProxyState =
-        new_proxy (record limits { line = 5; waiting = 2 }) in ¬ IsAsked (record proxy {
-          client = record proxy.client { bytes = codes "NOOP\r\n" };
-        }) }
-    ensures waiting { (proxy : ProxyState) → waits proxy ≡ true → ¬ IsAsked proxy }
+{}
+
+/// TLS begins where the server has agreed to it by a 234, and not where it refused.
+pub fn tls_begins()
     ensures refused { (proxy : ProxyState) → proxy.dialogue
         ≡ after_reply (after_command (codes "AUTH TLS\r\n") (after_reply new_dialogue 220)) 502
-        → ¬ IsEnd proxy End.Tls }
-    ensures answer_first { (proxy : ProxyState) → is_due proxy ≡ true
-        → ¬ IsEnd proxy End.Malformed }
-    ensures answer_before_tls { (proxy : ProxyState) → is_due proxy ≡ true
-        → ¬ IsEnd proxy End.Tls }
-    ensures malformed { (proxy : ProxyState) → is_due proxy ≡ false
-        → proxy.server.limit ≡ Some 6 → proxy.server.bytes ≡ codes "21 a\r\n"
-        → IsEnd proxy End.Malformed }
-    ensures agreed { (proxy : ProxyState) → is_due proxy ≡ false → proxy.dialogue
+        → ¬ BeginsTls proxy }
+    ensures agreed { (proxy : ProxyState) → proxy.dialogue
         ≡ after_reply (after_command (codes "AUTH TLS\r\n") (after_reply new_dialogue 220)) 234
-        → IsEnd proxy End.Tls }
+        → BeginsTls proxy }
 {}

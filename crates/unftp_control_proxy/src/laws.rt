@@ -1,5 +1,5 @@
 //! What holds of all that passes a proxy, each the contract of a function that does nothing.
-ghost use Rattle.std.specs.Prelude.{◌≡◌, ◌<◌, ◌≤◌, ◌++◌, ℕ, suc, List, None, IfSome, length, max, Option};
+ghost use Rattle.std.specs.Prelude.{◌≡◌, ◌<◌, ◌≤◌, ◌++◌, suc, None, length, max};
 ghost use Rattle.std.specs.List.{AllByRecursion, concat, filter};
 ghost use Rattle.unftp_control_defs.specs.Bytes.{Bytes};
 ghost use Rattle.unftp_control_defs.specs.Events.{events};
@@ -10,12 +10,9 @@ ghost use Rattle.unftp_control_client.specs.Dialogue.{commands_owed};
 ghost use Rattle.unftp_control_client.specs.Steps.{AreExchanges, is_final};
 ghost use Rattle.unftp_control_client.specs.declared.dialogue.To.TheVariants.{Greeting};
 ghost use Rattle.unftp_control_proxy.specs.ProxyCalls.{ProxyState, new_proxy, server_owes};
-ghost use Rattle.unftp_control_proxy.specs.Traffic.{ChangesNothing, DecidedLine, IsDecidedLine, IsPassedReply, IsTraffic, Traffic, bytes_that_came, client_lines, client_replies, fates_in, fates_of, given_in, held_fate, joined_traffic, no_traffic, passed_in, all_sent};
-ghost use Rattle.unftp_control_proxy.specs.Filtering.{AreFiltered, filtered};
-ghost use Rattle.unftp_control_proxy.specs.Relaying.{IsSettled, RelayState, Relays, after_written, new_relay};
+ghost use Rattle.unftp_control_proxy.specs.Traffic.{ChangesNothing, IsDecidedLine, IsPassedReply, IsTraffic, Traffic, bytes_that_came, client_lines, client_replies, fates_in, fates_of, given_in, held_fate, joined_traffic, no_traffic, passed_in, all_sent};
 ghost use Rattle.unftp_control_proxy.specs.declared.proxy.Limits.{Limits as RustLimits};
 
-use crate::filter::Filter;
 use unftp_control_serve::Handler;
 
 /// Whatever comes from both sides, in whatever pieces, and in whatever order the calls are made:
@@ -96,70 +93,4 @@ pub fn traffic_is_joined()
     ensures joined { (before middle later : ProxyState) (first second : Traffic)
         → IsTraffic before first middle → IsTraffic middle second later
         → IsTraffic before (joined_traffic first second) later }
-{}
-
-/// Where a filter decides the lines, by `filter_line`: what becomes of them, and so what the server
-/// is sent, follows from the client's lines and the filter's law alone, whenever anything came.
-pub fn filtered_by_its_law<F: Filter>()
-    ensures lines { (limit : Option ℕ) (sent_limit : ℕ) (s s' : F.State) (lines : List DecidedLine)
-        → AreFiltered F.law limit sent_limit s lines s'
-        → lines ≡ filtered F.law limit sent_limit s (client_lines lines) }
-    ensures sent { (limits : RustLimits) (traffic : Traffic) (later : ProxyState) (s s' : F.State)
-        → IsTraffic (new_proxy limits) traffic later
-        → AreFiltered F.law (Some limits.line) limits.sent s traffic.lines s'
-        → lines_of traffic.to_server
-        ≡ all_sent (filtered F.law (Some limits.line) limits.sent s (client_lines traffic.lines)) }
-    // Lines that it decides one after the other are decided so in all.
-    ensures in_turn { (limit : Option ℕ) (sent_limit : ℕ) (s s' s'' : F.State) (first later : List DecidedLine)
-        → AreFiltered F.law limit sent_limit s first s'
-        → AreFiltered F.law limit sent_limit s' later s''
-        → AreFiltered F.law limit sent_limit s (first ++ later) s'' }
-{}
-
-/// Whatever a relay is given, in whatever pieces, and whenever it is written: what becomes of the
-/// lines, and so what the server was sent and is still to be sent, follows from the client's lines
-/// and the filter's law alone. `Relays` is what each call of a `Relay` ensures.
-pub fn relayed_by_its_law<F: Filter>()
-    ensures sent { (limits : RustLimits) (from_client from_server : Bytes) (s : F.State)
-        (all : RelayState F.State)
-        (relays : Relays F.law from_client from_server (new_relay limits s) all)
-        → lines_of all.to_server ≡ all_sent (filtered F.law (Some limits.line) limits.sent s
-        (client_lines relays.traffic.lines)) }
-    // What the client was given and is still to be given are the exchanges of these lines.
-    ensures given { (limits : RustLimits) (from_client from_server : Bytes) (s : F.State)
-        (all : RelayState F.State)
-        (relays : Relays F.law from_client from_server (new_relay limits s) all)
-        → (all.to_client ≡ given_in relays.traffic.steps)
-        × AreExchanges Greeting (client_replies relays.traffic.steps)
-        × (fates_of (filtered F.law (Some limits.line) limits.sent s (client_lines relays.traffic.lines))
-        ≡ fates_in relays.traffic.steps ++ held_fate all.proxy.answer) }
-    ensures lines { (limits : RustLimits) (from_client from_server : Bytes) (s : F.State)
-        (all : RelayState F.State)
-        (relays : Relays F.law from_client from_server (new_relay limits s) all)
-        → from_client ≡ concat (client_lines relays.traffic.lines) ++ all.proxy.client.bytes }
-{}
-
-/// Calls of a relay one after the other are one, and what was written before changes nothing: it
-/// comes before what is held.
-pub fn relays_are_joined<F: Filter>()
-    ensures in_turn { (first_of_client more_of_client first_of_server more_of_server : Bytes)
-        (before middle after : RelayState F.State)
-        → Relays F.law first_of_client first_of_server before middle
-        → Relays F.law more_of_client more_of_server middle after
-        → Relays F.law (first_of_client ++ more_of_client) (first_of_server ++ more_of_server)
-        before after }
-    ensures written { (from_client from_server to_client to_server : Bytes)
-        (before after : RelayState F.State)
-        → Relays F.law from_client from_server before after
-        → Relays F.law from_client from_server (after_written to_client to_server before)
-        (after_written to_client to_server after) }
-{}
-
-/// Where a relay is settled, its buffer holds less of what the server sent than a reply may have:
-/// a part of a reply, and none that was given.
-pub fn little_is_held()
-    ensures buffered { (proxy : ProxyState) → IsSettled proxy
-        → IfSome proxy.server.limit (λ limit. proxy.server.buffered < limit) }
-    ensures pending { (proxy : ProxyState) → IsSettled proxy
-        → proxy.server.buffered ≡ length proxy.server.bytes }
 {}

@@ -1,24 +1,17 @@
 //! A proxy on a control connection, without input and output: it stands between a client and a
 //! server, takes the client's lines, and sends each to the server or answers it itself. The client
-//! is given one exchange for each of its lines, in order (RFC 959, section 5.4). A filter may
-//! decide the lines, and a relay makes all calls for it.
+//! is given one exchange for each of its lines, in order (RFC 959, section 5.4).
 #![tactic(auto)]
 
 mod answer;
-mod driver;
 mod errors;
 pub mod examples;
-mod filter;
 pub mod laws;
 mod proxy;
-mod relay;
 mod sending;
 pub mod steps;
 
 pub use crate::answer::Answer;
-pub use crate::driver::filter_line;
 pub use crate::errors::{ReplaceError, SendError};
-pub use crate::filter::{Filter, Verdict};
 pub use crate::proxy::{Limits, NextReply, Proxy};
-pub use crate::relay::{End, Relay};
 pub use unftp_control_serve::ClientLine;

@@ -17,7 +17,7 @@ use crate::sending::{append, check};
 use std::alloc::{AllocError, Global};
 use std::marker::Model;
 use std::mem;
-use unftp_control_client::Dialogue;
+use unftp_control_client::{Dialogue, Order};
 use unftp_control_read::{FirstReply, FoundReply, NextReplyError, ReplyDecoder, find_reply};
 use unftp_control_serve::{ClientLine, EventDecoder};
 use unftp_control_write::{ForwardError, forward, is_line};
@@ -61,28 +61,29 @@ pub enum NextReply {
 /// No line is taken after one that the proxy answers itself, until the answer is given; nor after
 /// AUTH TLS, until its reply is (RFC 4217, section 4). After a 234 to that, `tls_agreed` returns
 /// true, and what is pending is no line: the caller takes no further one.
-// An answer that is held is one final reply.
+// An answer that is held is one final reply, and the line that is taken is the one that it is to.
 #[derive(Drop)]
 pub struct Proxy {
     client: EventDecoder,
     server: ReplyDecoder,
-    dialogue: Dialogue,
+    order: Order,
     answer: Option<Answer>,
     limits: Limits,
 }
 
 impl Model for Proxy {
-    ghost use Rattle.std.specs.Prelude.{IfSome, true, ◌≡◌};
+    ghost use Rattle.std.specs.Prelude.{IfSome, is_some, true, ◌≡◌};
     ghost use Rattle.unftp_control_proxy.specs.ProxyAnswers.{answer_reply, is_answer};
     ghost use Rattle.unftp_control_proxy.specs.ProxyCalls.{ProxyState, proxy_state};
 
     ghost Value = { ProxyState };
 
-    ghost view = { λ proxy. proxy_state proxy.client proxy.server proxy.dialogue proxy.answer
-        proxy.limits };
+    ghost view = { λ proxy. proxy_state proxy.client proxy.server proxy.order.dialogue
+        proxy.answer proxy.limits };
 
     ghost invariant = { λ proxy.
-        IfSome proxy.answer (λ answer. is_answer (answer_reply answer) ≡ true) };
+        IfSome proxy.answer (λ answer. is_answer (answer_reply answer) ≡ true)
+        × (proxy.order.taken ≡ is_some proxy.answer) };
 }
 
 impl Proxy {
@@ -94,7 +95,7 @@ impl Proxy {
         Proxy {
             client: EventDecoder::with_limit(alloc, limits.line),
             server: ReplyDecoder::with_limit(alloc, limits.reply),
-            dialogue: Dialogue::new(),
+            order: Order::new(),
             answer: None,
             limits,
         }
@@ -131,15 +132,15 @@ impl Proxy {
     pub fn waits_for_server(&self) -> bool
         ensures { result ≡ waits self.now }
     {
-        self.owes_all() || self.answer.is_some() || self.dialogue.awaits_tls()
+        self.owes_all() || !self.order.may_take()
     }
 
     /// Whether the server owes as many replies as it may.
     fn owes_all(&self) -> bool
         ensures { result ≡ nat_le self.now.limits.waiting (server_owes self.now.dialogue) }
     {
-        let greeting = u64::from(self.dialogue.answered.is_none());
-        self.dialogue.owed().saturating_add(greeting) >= self.limits.waiting as u64
+        let greeting = u64::from(self.order.dialogue.answered.is_none());
+        self.order.dialogue.owed().saturating_add(greeting) >= self.limits.waiting as u64
     }
 
     /// How far the dialogue with the server has come: how many replies it owes (`owed`), and
@@ -147,7 +148,7 @@ impl Proxy {
     pub fn dialogue(&self) -> Dialogue
         ensures { result ≡ self.now.dialogue }
     {
-        self.dialogue
+        self.order.dialogue
     }
 
     /// What the client's next line is; or `None` where none is complete. `line` then returns its
@@ -292,7 +293,7 @@ impl Proxy {
     /// Decides the line: the bytes of `to_server` from `length` on, which the caller appended, are
     /// what is sent for it. Else as `send_as_it_is`, of these bytes, but never `OutOfMemory`; at an
     /// error they are removed.
-    pub fn send_appended(&mut self, length: usize, to_server: &mut Vec<u8>) -> Result<(), SendError>
+    fn send_appended(&mut self, length: usize, to_server: &mut Vec<u8>) -> Result<(), SendError>
         requires { length ≤ vec_len to_server.old }
         ensures ok { OnOk result
             (self.new ≡ after_fate self.old (SentAs (drop length to_server.old.items))) }
@@ -328,6 +329,7 @@ impl Proxy {
     /// where as many lines were sent as are counted.
     fn note_line(&mut self, length: usize, to_server: &mut Vec<u8>) -> Result<(), SendError>
         requires found { IsTrue self.old.client.found }
+        requires none { waits self.old ≡ false }
         requires within { length ≤ vec_len to_server.old }
         ensures ok { OnOk result
             (self.new ≡ after_fate self.old (SentAs (drop length to_server.old.items))) }
@@ -338,7 +340,7 @@ impl Proxy {
         ensures removed { OnErr result (to_server.new.items ≡ take length to_server.old.items) }
     {
         let (_, line) = to_server.as_slice().split_at(length);
-        if self.dialogue.add_line(line).is_none() {
+        if self.order.send(line).is_none() {
             to_server.truncate(length);
             return Err(SendError::TooManyCommands);
         }
@@ -370,9 +372,11 @@ impl Proxy {
 
     /// Holds the answer until it is given.
     fn hold(&mut self, answer: Answer)
-        requires { is_answer (answer_reply answer) ≡ true }
+        requires single { is_answer (answer_reply answer) ≡ true }
+        requires none { waits self.old ≡ false }
         ensures { self.new ≡ record self.old { answer = Some (answer_reply answer) } }
     {
+        self.order.take();
         let before = mem::replace(&mut self.answer, Some(answer));
         drop(before);
     }
@@ -395,7 +399,7 @@ impl Proxy {
         ensures out_err { OnErr result (to_client.new.items ≡ to_client.old.items) }
         ensures why { IfErr result (IsNextError self.old to_client.old) }
     {
-        if !self.dialogue.owes_reply() && self.answer.is_some() {
+        if !self.order.dialogue.owes_reply() && self.answer.is_some() {
             return self.give_answer(to_client);
         }
         self.pass_reply(to_client)
@@ -416,6 +420,8 @@ impl Proxy {
         if answer.append_to(to_client).is_err() {
             return Err(NextReplyError::OutOfMemory);
         }
+        let code = answer.code();
+        self.order.answer(code);
         let given = mem::replace(&mut self.answer, None);
         drop(given);
         Ok(Some(NextReply::Answered))
@@ -434,7 +440,7 @@ impl Proxy {
             self.server.settle();
             return Ok(None);
         };
-        if !self.dialogue.owes_reply() {
+        if !self.order.dialogue.owes_reply() {
             return Ok(Some(NextReply::Unasked(first.code)));
         }
         let (reply, _) = self.server.pending().split_at(first.length);
@@ -455,7 +461,7 @@ impl Proxy {
         } }
     {
         self.server.consume(first.length);
-        self.dialogue.add_code(u32::from(first.code));
+        self.order.pass(u32::from(first.code));
     }
 
     /// The first reply of what the server sent, which `server_pending` begins with; or `None` where
@@ -490,7 +496,7 @@ impl Proxy {
             Ok(None) => return Err(ReplaceError::NoReply),
             Err(_) => return Err(ReplaceError::NoReply),
         };
-        if !self.dialogue.owes_reply() {
+        if !self.order.dialogue.owes_reply() {
             return Err(ReplaceError::NotOwed);
         }
         if !is_reply_of(first.code, other) {
@@ -524,7 +530,7 @@ impl Proxy {
     pub fn tls_agreed(&self) -> bool
         ensures { IsTrue result ↔ BeginsTls self.now }
     {
-        self.dialogue.agreed && self.dialogue.owed() == 0
+        self.order.dialogue.agreed && self.order.dialogue.owed() == 0
     }
 }
 

@@ -8,7 +8,7 @@ use unftp_control_write::{is_clear, is_line};
 
 /// Whether the line may be sent to the server, and if not, why. One that is clear is one line, so
 /// its bytes are looked at once.
-#[tactic(auto, using(crate::proofs::FilterLemmas::clear_is_line))]
+#[tactic(auto, using(crate::proofs::SendLemmas::clear_is_line))]
 pub(crate) fn check(limit: usize, line: &[u8]) -> Result<(), SendError>
     ensures ok { IsOk result → MayBeSent limit line.now }
     ensures why { IfErr result (λ error. IsUnsent limit line.now error) }

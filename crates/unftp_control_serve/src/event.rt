@@ -1,10 +1,10 @@
 //! What a handler receives.
 ghost use Rattle.std.specs.Prelude.{◌≡◌};
 ghost use Rattle.unftp_control_defs.specs.Events.{is_quit};
-ghost use Rattle.unftp_control_serve.specs.EventMeaning.{event_meant, refuses_length};
+ghost use Rattle.unftp_control_serve.specs.EventMeaning.{event_meant};
 
 use unftp_control_message::Command;
-use unftp_control_message::reply::error::{ControlChanError, ControlChanErrorKind};
+use unftp_control_message::reply::error::ControlChanError;
 
 /// A line, read: its command, or why it is none.
 #[derive(Debug, Drop)]
@@ -23,15 +23,5 @@ impl Event {
         ensures { result ≡ is_quit (event_meant self.now) }
     {
         matches!(self, Event::Command(Command::Quit))
-    }
-
-    /// Whether it is the refusal of a line that is longer than the limit.
-    pub fn is_line_too_long(&self) -> bool
-        ensures { result ≡ refuses_length (event_meant self.now) }
-    {
-        match self {
-            Event::Command(_) => false,
-            Event::Refused(error) => matches!(error.kind(), ControlChanErrorKind::LineTooLong),
-        }
     }
 }

@@ -1,7 +1,7 @@
 //! Tests of what no contract says and no row of `vectors/` can show: what `?` makes of another
 //! error, readers that fail, what Debug writes under its flags, most callers of `example_callers`
-//! once, recorders, relays with filters of their own, addresses after other bytes, and MLST and the
-//! facts of files, for which the program of the rows would have to load `jiff`.
+//! once, a proxy that rewrites lines and replies, addresses after other bytes, and MLST and the facts
+//! of files, for which the program of the rows would have to load `jiff`.
 #![tactic(auto)]
 
 #[cfg(test)]
@@ -15,10 +15,8 @@ mod facts;
 #[cfg(test)]
 mod held;
 #[cfg(test)]
+mod proxying;
+#[cfg(test)]
 mod receiving;
-#[cfg(test)]
-mod recording;
-#[cfg(test)]
-mod relaying;
 #[cfg(test)]
 mod values;

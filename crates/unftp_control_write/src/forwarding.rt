@@ -1,5 +1,5 @@
 //! The line that a proxy sends to a server for a client's line.
-ghost use Rattle.std.specs.Prelude.{◌≡◌, ◌↔◌, ◌++◌, false, Ok, Err, IfErr, IsTrue, MatchOption, OnErr, OnOk, option_map, take, vec_len};
+ghost use Rattle.std.specs.Prelude.{◌≡◌, ◌↔◌, ◌++◌, false, Err, IfErr, IsTrue, MatchOption, OnErr, OnOk, option_map, take, vec_len};
 ghost use Rattle.unftp_control_message.specs.PartsMeaning.{IsInPlace, said_of};
 ghost use Rattle.unftp_control_defs.specs.Bytes.{LF, Lacks, crlf};
 ghost use Rattle.unftp_control_defs.specs.Forwarded.{before_end, kind_keeps, with_parameter};
@@ -7,7 +7,6 @@ ghost use Rattle.unftp_control_defs.specs.FtpCommand.{kind, unless_empty};
 ghost use Rattle.unftp_control_defs.specs.Lines.{IsLine};
 ghost use Rattle.unftp_control_defs.specs.Outcome.{outcome};
 ghost use Rattle.unftp_control_defs.specs.Verbs.{upper};
-ghost use Rattle.unftp_control_codecs.specs.Memory.{PartsTo};
 ghost use Rattle.unftp_control_write.specs.Forwarding.{IsForwardError, IsForwarded, LacksRoomFor, sent_line};
 ghost use Rattle.unftp_control_defs.specs.Room.{LacksRoom};
 
@@ -58,25 +57,6 @@ pub fn forward(line: &[u8], buf: &mut Vec<u8>) -> Result<(), ForwardError>
     let parts = match parts(line) {
         Ok(parts) => parts,
         Err(refusal) => return Err(ForwardError::Refused(ParseError::from(refusal))),
-    };
-    append_or_nothing(text, parts, buf)
-}
-
-/// As `forward`, of a line that was read already: `parts` is what `parts` of
-/// `unftp_control_codecs::line_parser` returned for it. So it is read once.
-///
-/// `NotALine` and `OutOfMemory` come as with `forward`, and it is never `Refused`. At each error
-/// `buf` is as it was.
-pub fn forward_parts(line: &[u8], parts: Parts<'_>, buf: &mut Vec<u8>) -> Result<(), ForwardError>
-    requires { PartsTo (outcome line.now) (Ok parts) }
-    ensures ok { OnOk result (IsForwarded line.now buf.old.items buf.new.items) }
-    ensures err { OnErr result (buf.new.items ≡ buf.old.items) }
-    ensures why { IfErr result (λ error. IsForwardError line.now error) }
-    ensures memory { result ≡ Err ForwardError.OutOfMemory → LacksRoomFor line.now buf.old }
-    ensures not_a_line { ¬ IsLine line.now → result ≡ Err ForwardError.NotALine }
-{
-    let Some(text) = without_end(line) else {
-        return Err(ForwardError::NotALine);
     };
     append_or_nothing(text, parts, buf)
 }

@@ -15,7 +15,7 @@ mod line;
 
 use crate::canonical::line_of;
 pub use clear::is_clear;
-pub use forwarding::{ForwardError, forward, forward_parts, is_line, without_end};
+pub use forwarding::{ForwardError, forward, is_line, without_end};
 use itoa::Buffer;
 use thiserror::Error;
 use unftp_control_message::Command;

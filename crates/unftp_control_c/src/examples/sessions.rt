@@ -4,16 +4,18 @@
 ghost use Rattle.std.specs.Prelude.{◌≡◌, ◌∷◌, [], true, false, bytes_eq, codes, Err, None, Ok, Some};
 ghost use Rattle.unftp_control_defs.specs.Bytes.{Bytes};
 ghost use Rattle.unftp_control_defs.specs.Events.{Command as Event};
-ghost use Rattle.unftp_control_defs.specs.FtpCommand.{Auth, Pass, User};
+ghost use Rattle.unftp_control_defs.specs.FtpCommand.{Auth, Noop, Pass, User};
 ghost use Rattle.unftp_control_defs.specs.declared.parameters.AuthParam.TheVariants.{Tls};
 ghost use Rattle.unftp_control_client.specs.Dialogue.{new_dialogue};
 ghost use Rattle.unftp_control_client.specs.declared.dialogue.To.TheVariants.{Command, Greeting, Nothing};
 ghost use Rattle.unftp_control_c.specs.Clients.{dialogue_of, may_begin_tls, new_client, place_in, to_number};
 ghost use Rattle.unftp_control_c.specs.ExchangeLines.{IsExchangeLine, IsLeftUnread};
 ghost use Rattle.unftp_control_c.specs.LogLines.{IsLogLine, numbered_hides, numbered_log_line};
-ghost use Rattle.unftp_control_c.specs.Logins.{after_answer, after_event, kept_after_all, login_step, nobody, progress_of, step_number};
-ghost use Rattle.unftp_control_c.specs.declared.login.Progress.TheVariants.{Asked, LoggedIn, Named, NoName};
-ghost use Rattle.unftp_control_c.specs.declared.login.LoginStep.TheVariants.{AskAccounts, NeedLogin, NeedName, NeedPassword, PassOn};
+ghost use Rattle.unftp_control_login.specs.Gate.{nobody};
+ghost use Rattle.unftp_control_login.specs.declared.stage.LoginStep.TheVariants.{NeedLogin, PassOn};
+ghost use Rattle.unftp_control_login.specs.declared.stage.Progress.TheVariants.{Asked, LoggedIn, Named, NoName};
+ghost use Rattle.unftp_control_login.specs.declared.stage.Role.TheVariants.{Closed, Name, Open};
+ghost use Rattle.unftp_control_c.specs.Logins.{event_role, kept_after_all, progress_of, step_number};
 ghost use Rattle.unftp_control_c.specs.declared.status.Status.TheVariants.{InvalidArgument, Malformed, More, NoLine, OutOfMemory};
 
 /// Log lines, by what `unftp_next` returned: 2 is PASS, and 105 a line that is too long.
@@ -79,31 +81,16 @@ pub fn tls_may_begin()
         (record { sent = 1; answered = Some 1; asked = Some 0; agreed = false }) 0 ≡ false }
 {}
 
-/// What is done with an event: 1 is USER, 2 PASS, 10 NOOP, 14 RETR, and 102 to 106 no command.
-pub fn logins_have_steps()
-    ensures stranger { login_step NoName 14 ≡ NeedLogin }
-    ensures named { login_step Named 14 ≡ NeedLogin }
-    ensures member { login_step LoggedIn 14 ≡ PassOn }
-    ensures needs_none { login_step NoName 10 ≡ PassOn }
-    ensures refused { login_step NoName 102 ≡ PassOn }
-    ensures out_of_memory { login_step NoName 106 ≡ PassOn }
-    ensures no_line_yet { login_step NoName 101 ≡ NeedLogin }
-    ensures no_event { login_step NoName 107 ≡ NeedLogin }
-    ensures name { login_step LoggedIn 1 ≡ NeedPassword }
-    ensures password { login_step Named 2 ≡ AskAccounts }
-    ensures no_name { login_step NoName 2 ≡ NeedName }
-{}
-
-/// How far a login has come after an event and an answer: 35 is AUTH.
-pub fn logins_come_on()
-    ensures again { after_event LoggedIn 1 ≡ Named }
-    ensures asked { after_event Named 2 ≡ Asked }
-    ensures stays { after_event LoggedIn 2 ≡ LoggedIn }
-    ensures flushed { after_event LoggedIn 35 ≡ NoName }
-    ensures late { after_event Asked 10 ≡ NoName }
-    ensures accepted { after_answer true Asked ≡ LoggedIn }
-    ensures refused { after_answer false Asked ≡ NoName }
-    ensures not_asked { after_answer true Named ≡ Named }
+/// What an event is to a login, by its number: 1 is USER, 10 NOOP, 14 RETR, and 102 to 106 no
+/// command.
+pub fn events_have_roles()
+    ensures name { event_role 1 ≡ Name }
+    ensures needs_login { event_role 14 ≡ Closed }
+    ensures needs_none { event_role 10 ≡ Open }
+    ensures refused { event_role 102 ≡ Open }
+    ensures out_of_memory { event_role 106 ≡ Open }
+    ensures no_line_yet { event_role 101 ≡ Closed }
+    ensures no_event { event_role 107 ≡ Closed }
     ensures first_step { step_number PassOn ≡ 0 }
     ensures last_step { step_number NeedLogin ≡ 4 }
     ensures last { progress_of 3 ≡ Asked }
@@ -114,11 +101,14 @@ pub fn logins_come_on()
 pub fn sessions_log_in()
     ensures member { kept_after_all (λ name password. bytes_eq name (codes "anna")) nobody
         (Event (User (codes "anna")) ∷ Event (Pass (codes "secret")) ∷ [])
-        ≡ record { progress = LoggedIn; name = codes "anna" } }
+        ≡ record { progress = LoggedIn; name = [] } }
     ensures other_name { kept_after_all (λ name password. bytes_eq name (codes "anna")) nobody
         (Event (User (codes "otto")) ∷ Event (Pass (codes "secret")) ∷ [])
-        ≡ record { progress = NoName; name = codes "otto" } }
+        ≡ nobody }
+    ensures named { kept_after_all (λ name password. true) nobody
+        (Event (User (codes "anna")) ∷ Event Noop ∷ [])
+        ≡ record { progress = Named; name = codes "anna" } }
     ensures tls { kept_after_all (λ name password. true) nobody
         (Event (User (codes "anna")) ∷ Event (Pass []) ∷ Event (Auth Tls) ∷ [])
-        ≡ record { progress = NoName; name = codes "anna" } }
+        ≡ nobody }
 {}

@@ -1,9 +1,9 @@
 //! Verbs of lines.
 ghost use Rattle.std.specs.Prelude.{◌≡◌, bytes_eq};
-ghost use Rattle.unftp_control_defs.specs.Forwarded.{keeps_parameter, kind_keeps};
+ghost use Rattle.unftp_control_defs.specs.Forwarded.{kind_keeps};
 ghost use Rattle.unftp_control_defs.specs.Verbs.{upper};
 
-use unftp_control_defs::verb::{Kind, verb_named};
+use unftp_control_defs::verb::Kind;
 
 /// Whether the words are the same, ignoring ASCII case.
 #[inline]
@@ -13,18 +13,8 @@ pub fn is_same_word(word: &[u8], other: &[u8]) -> bool
     word.eq_ignore_ascii_case(other)
 }
 
-/// Whether a line of this verb, ignoring ASCII case, is forwarded with its own parameter, since its
-/// command may hold less than that (RFC 959, section 5.3). It takes no memory.
-pub fn keeps_parameter(word: &[u8]) -> bool
-    ensures { result ≡ keeps_parameter (upper word.now) }
-{
-    match verb_named(word) {
-        Some(verb) => kind_keeps(verb.kind()),
-        None => true,
-    }
-}
-
-/// Whether a line of a verb of this kind is forwarded with its own parameter.
+/// Whether a line of a verb of this kind is forwarded with its own parameter, since its command may
+/// hold less than that (RFC 959, section 5.3).
 pub fn kind_keeps(kind: Kind) -> bool
     ensures { result ≡ kind_keeps kind }
 {

@@ -1,6 +1,6 @@
-use Rattle.std.proofs.Common.{refl, subst}
+use Rattle.std.proofs.Common.{subst}
 use Rattle.unftp_control_read.specs.Reading.{ReturnsFront, contents}
-use Rattle.unftp_control_log.proofs.TurnLemmas.{pushed_reply}
+use Rattle.unftp_control_c.proofs.ExchangeLemmas.{pushed_reply}
 use Rattle.unftp_control_c.proofs.exchange.take_reply.Goals as goal
 
 pub returns-else-is_err-clause-ok : goal.returns-else-is_err-clause-ok
@@ -14,7 +14,6 @@ returns-else-is_err-clause-ok c =
             c.in-Ok-Whole.ensures.front;
         after_is = c.split_at.ensures.back;
       },
-      pushed_reply c.args.replies.now c.args.replies.now c.push.new.self
-          (record { code = code; lines = lines }) c.push.result refl c.push.ensures.items
-          c.if-is_err.false c.is_err.ensures.value,
+      pushed_reply c.args.replies.now c.push.new.self (record { code = code; lines = lines })
+          c.push.result c.push.ensures.items c.if-is_err.false c.is_err.ensures.value,
     )

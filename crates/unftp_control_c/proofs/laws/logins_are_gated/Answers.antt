@@ -1,135 +1,97 @@
 -- What a server in C does with an event is what a login gate does.
-use Rattle.std.proofs.Common.{◌≡◌, ℕ, Bool, true, false, List, [], ◌∷◌, Some, None, refl, sym, ap, ◌∙◌}
-use Rattle.std.specs.Prelude.{if◌then◌else◌}
+use Rattle.std.proofs.Common.{◌≡◌, ◌≢◌, Bool, true, false, List, [], ◌∷◌, Some, None, not, ◌&&◌, refl, sym, ap, subst, ◌∙◌}
 use Rattle.std.proofs.lemmas.Bool.{false≢true}
 use Rattle.unftp_control_defs.specs.Bytes.{Bytes}
 use Rattle.unftp_control_defs.specs.Events.{Fault, FaultKind, FaultSource, FtpEvent, Command, Io, NoSource, Parse, Refused, Utf8}
 use Rattle.unftp_control_defs.specs.Events as kinds
-use Rattle.unftp_control_defs.specs.FtpCommand.{User, Pass, Auth, InvalidCommand, InvalidEol, InvalidUtf8}
-use Rattle.unftp_control_login.specs.Gate.{Answers, PassesOn, decided, is_barred, is_logged_in, login_needed, stage_after}
-use Rattle.unftp_control_login.specs.Login.{Accounts, is_login, needs_login}
-use Rattle.unftp_control_login.specs.declared.stage.Stage.TheVariants as gate
-use Rattle.unftp_control_login.proofs.StageLemmas.{IsLoggedIn-stage, decided-barred, logged_in-stage, stage_after_all}
+use Rattle.unftp_control_defs.specs.FtpCommand.{InvalidCommand, InvalidEol, InvalidUtf8, Quit}
+use Rattle.unftp_control_login.specs.Gate.{decided, decision_at, is_logged_in, nobody, stage_after, stage_after_all, stage_by}
+use Rattle.unftp_control_login.specs.Login.{Accounts, is_closed, login_step, needs_login, role_in}
+use Rattle.unftp_control_login.specs.declared.stage.LoginStep.TheVariants.{PassOn}
+use Rattle.unftp_control_login.specs.declared.stage.Progress.{Progress}
+use Rattle.unftp_control_login.specs.declared.stage.Progress.TheVariants.{NoName, Named, LoggedIn, Asked}
+use Rattle.unftp_control_login.specs.declared.stage.Role.{Role}
+use Rattle.unftp_control_login.specs.declared.stage.Role.TheVariants.{Closed, Name, Open}
+use Rattle.unftp_control_login.specs.declared.stage.Stage.{Stage}
+use Rattle.unftp_control_login.proofs.StageLemmas.{IsLoggedIn-stage, logged_in-stage, passed-step}
 use Rattle.unftp_control_c.specs.Next.{given_for}
 use Rattle.unftp_control_c.specs.Numbers.{fault_status, source_status, status_number, status_of_kind}
-use Rattle.unftp_control_c.specs.Logins.{Kept, after_event, decision_at, kept_after, kept_after_all, login_step, nobody, not_asked, progress_of, stage_by, stage_number, stage_of, step_at_command}
-use Rattle.unftp_control_c.specs.declared.login.Progress.{Progress}
-use Rattle.unftp_control_c.specs.declared.login.Progress.TheVariants.{NoName, Named, LoggedIn, Asked}
-use Rattle.unftp_control_c.specs.declared.login.LoginStep.TheVariants.{PassOn}
+use Rattle.unftp_control_c.specs.Logins.{KeepsSame, event_role, kept_after, kept_after_all, progress_of, stage_number}
 use Rattle.unftp_control_c.proofs.laws.logins_are_gated.Goals as goal
 
--- ---- one event
-
-passed_on : (progress : Progress) → step_at_command progress true ≡ PassOn
-passed_on NoName = refl
-passed_on Named = refl
-passed_on LoggedIn = refl
-passed_on Asked = refl
-
--- a refused line is passed on, and changes nothing of a login
-abbrev AsRefused : ℕ → Type 0
-AsRefused number = (progress : Progress)
-    → (login_step progress number ≡ PassOn) × (after_event progress number ≡ not_asked progress)
-
-as_refused : (fault : Fault) → AsRefused (status_number (fault_status fault))
-as_refused fault = by_kind fault.kind where
-  by_source : (source : FaultSource) → AsRefused (status_number (source_status source))
-  by_source NoSource = λ progress. (passed_on progress, refl)
-  by_source (Parse None) = λ progress. (passed_on progress, refl)
-  by_source (Parse (Some InvalidCommand)) = λ progress. (passed_on progress, refl)
-  by_source (Parse (Some InvalidUtf8)) = λ progress. (passed_on progress, refl)
-  by_source (Parse (Some InvalidEol)) = λ progress. (passed_on progress, refl)
-  by_source Utf8 = λ progress. (passed_on progress, refl)
-  by_source Io = λ progress. (passed_on progress, refl)
+-- a refused line needs no login
+refused_role : (fault : Fault) → event_role (status_number (fault_status fault)) ≡ Open
+refused_role fault = by_kind fault.kind where
+  by_source : (source : FaultSource) → event_role (status_number (source_status source)) ≡ Open
+  by_source (Parse (Some InvalidCommand)) = refl
+  by_source (Parse (Some InvalidUtf8)) = refl
+  by_source (Parse (Some InvalidEol)) = refl
+  by_source _ = refl
 
   by_kind : (kind : FaultKind)
-      → AsRefused (status_number (status_of_kind kind (source_status fault.source)))
-  by_kind kinds.OutOfMemory = λ progress. (passed_on progress, refl)
-  by_kind kinds.LineTooLong = λ progress. (passed_on progress, refl)
+      → event_role (status_number (status_of_kind kind (source_status fault.source))) ≡ Open
+  by_kind kinds.OutOfMemory = refl
+  by_kind kinds.LineTooLong = refl
   by_kind _ = by_source fault.source
 
-stage_kept : (progress : Progress) (name : Bytes)
-    → stage_by (not_asked progress) name ≡ stage_by progress name
-stage_kept NoName name = refl
-stage_kept Named name = refl
-stage_kept LoggedIn name = refl
-stage_kept Asked name = refl
+-- by its number an event is to a login what it is
+roles : (event : FtpEvent) → event_role (given_for event).number ≡ role_in event
+roles (Refused fault) = refused_role fault
+roles (Command Quit) = refl
+roles (Command command) = refl
 
-by_answer : (name : Bytes) (accepted : Bool)
-    → stage_by (if accepted then LoggedIn else NoName) name
-    ≡ (if accepted then gate.LoggedIn else gate.NoName)
-by_answer name true = refl
-by_answer name false = refl
+stages : (accepts : Accounts) (kept : Stage) (event : FtpEvent)
+    → kept_after accepts kept event ≡ stage_after accepts kept event
+stages accepts kept event = ap (λ role. stage_by role accepts kept event) (roles event)
 
-no_login : (event : FtpEvent) → needs_login event ≡ true → is_login event ≡ false
-no_login (Command (User name)) needs = absurd (false≢true needs)
-no_login (Command (Pass password)) needs = absurd (false≢true needs)
-no_login event needs = refl
-
-module _ (accepts : Accounts) (name : Bytes) where
-  abbrev with_progress : Progress → Kept
-  with_progress progress = record { progress = progress; name = name }
-
-  stages : (progress : Progress) (event : FtpEvent)
-      → stage_of (kept_after accepts (with_progress progress) event)
-      ≡ stage_after accepts (stage_by progress name) event
-  stages progress (Refused fault) =
-      ap (λ progress. stage_by progress name) (as_refused fault progress).1
-      ∙ stage_kept progress name
-  stages progress (Command (User other)) = refl
-  stages NoName (Command (Pass password)) = refl
-  stages Named (Command (Pass password)) = by_answer name (accepts name password)
-  stages LoggedIn (Command (Pass password)) = refl
-  stages Asked (Command (Pass password)) = refl
-  stages progress (Command (Auth mechanism)) = refl
-  stages progress (Command command) = stage_kept progress name
-
-  decides : (progress : Progress) (event : FtpEvent)
-      → decided accepts (stage_by progress name) event
-      ≡ decision_at (login_step progress (given_for event).number) accepts name event
-  decides progress (Refused fault) = ap (λ step. decision_at step accepts name (Refused fault))
-      (sym (as_refused fault progress).0)
-  decides progress (Command (User other)) = refl
-  decides NoName (Command command) = refl
-  decides Named (Command command) = refl
-  decides LoggedIn (Command command) = refl
-  decides Asked (Command command) = refl
-
-  -- one that needs a login is passed on only after one
-  passed : (progress : Progress) (event : FtpEvent) → needs_login event ≡ true
-      → login_step progress (given_for event).number ≡ PassOn
-      → is_logged_in (stage_by progress name) ≡ true
-  passed progress event needs step = by_stage (is_logged_in (stage_by progress name)) refl where
-    by_stage : (test : Bool) → is_logged_in (stage_by progress name) ≡ test
-        → is_logged_in (stage_by progress name) ≡ true
-    by_stage true e = e
-    by_stage false e =
-        let barred : is_barred (stage_by progress name) event ≡ true = rw (needs, e) refl in
-        let same : Answers login_needed ≡ PassesOn event =
-        sym (decided-barred accepts (stage_by progress name) event (no_login event needs) barred)
-        ∙ decides progress event ∙ ap (λ step. decision_at step accepts name event) step in
-        absurd (cc)
-
-  passes : (progress : Progress) (event : FtpEvent) → is_login event ≡ false
-      → stage_by progress name ≡ gate.LoggedIn
-      → login_step progress (given_for event).number ≡ PassOn
-  passes progress (Refused fault) other is = (as_refused fault progress).0
-  passes NoName (Command command) other is = absurd (cc)
-  passes Named (Command command) other is = absurd (cc)
-  passes LoggedIn (Command (User given)) other is = absurd (cc)
-  passes LoggedIn (Command (Pass password)) other is = absurd (cc)
-  passes LoggedIn (Command command) other is = refl
-  passes Asked (Command command) other is = absurd (cc)
-
--- ---- all events
-
-all_stages : (accepts : Accounts) (kept : Kept) (events : List FtpEvent)
-    → stage_of (kept_after_all accepts kept events)
-    ≡ stage_after_all accepts (stage_of kept) events
+all_stages : (accepts : Accounts) (kept : Stage) (events : List FtpEvent)
+    → kept_after_all accepts kept events ≡ stage_after_all accepts kept events
 all_stages accepts kept [] = refl
 all_stages accepts kept (event ∷ events) = all_stages accepts (kept_after accepts kept event) events
-    ∙ ap (λ stage. stage_after_all accepts stage events)
-    (stages accepts kept.name kept.progress event)
+    ∙ ap (λ stage. stage_after_all accepts stage events) (stages accepts kept event)
+
+-- a name is read only where a password is to follow it
+module _ (accepts : Accounts) (event : FtpEvent) (name other : Bytes) where
+  abbrev with_name : Progress → Bytes → Stage
+  with_name progress name = record { progress = progress; name = name }
+
+  abbrev IsUnread : Progress → Role → Type 0
+  IsUnread progress role = (decision_at (login_step progress role) accepts name event
+      ≡ decision_at (login_step progress role) accepts other event)
+      × KeepsSame (stage_by role accepts (with_name progress name) event)
+      (stage_by role accepts (with_name progress other) event)
+
+  unread : (progress : Progress) (role : Role) → progress ≢ Named → IsUnread progress role
+  unread Named role none = absurd (none refl)
+  unread progress Name none = (refl, record { progress = refl; name = λ named. refl })
+  unread NoName role none = (refl, record { progress = refl; name = λ named. absurd (cc) })
+  unread LoggedIn role none = (refl, record { progress = refl; name = λ named. absurd (cc) })
+  unread Asked role none = (refl, record { progress = refl; name = λ named. absurd (cc) })
+
+  by_progress : (progress : Progress) (role : Role) → (progress ≡ Named → name ≡ other)
+      → IsUnread progress role
+  by_progress Named role same = (
+    ap (λ name. decision_at (login_step Named role) accepts name event) (same refl),
+    record {
+      progress = ap (λ name. (stage_by role accepts (with_name Named name) event).progress)
+          (same refl);
+      name = λ named. ap (λ name. (stage_by role accepts (with_name Named name) event).name)
+          (same refl);
+    },
+  )
+  by_progress NoName role same = unread NoName role (λ e. absurd (cc))
+  by_progress LoggedIn role same = unread LoggedIn role (λ e. absurd (cc))
+  by_progress Asked role same = unread Asked role (λ e. absurd (cc))
+
+member : (progress : Progress) (role : Role) → is_closed role ≡ true
+    → login_step progress role ≡ PassOn → is_logged_in progress ≡ true
+member LoggedIn role needs step = refl
+member progress Closed needs step = absurd (cc)
+member progress role needs step = absurd (false≢true needs)
+
+none : (needs : Bool) → (needs && not true) ≡ false
+none true = refl
+none false = refl
 
 numbered : (progress : Progress) → progress_of (stage_number progress) ≡ progress
 numbered NoName = refl
@@ -137,18 +99,41 @@ numbered Named = refl
 numbered LoggedIn = refl
 numbered Asked = refl
 
+names : (accepts : Accounts) (kept other : Stage) (event : FtpEvent) → KeepsSame kept other
+    → (decided accepts kept event ≡ decided accepts other event)
+    × KeepsSame (kept_after accepts kept event) (kept_after accepts other event)
+names accepts kept other event same =
+    let by_role = by_progress accepts event kept.name other.name kept.progress in
+    subst (λ progress. (decided accepts kept event
+    ≡ decided accepts (record other { progress = progress }) event)
+    × KeepsSame (kept_after accepts kept event)
+    (kept_after accepts (record other { progress = progress }) event)) same.progress (
+      (by_role (role_in event) same.name).0,
+      (by_role (event_role (given_for event).number) same.name).1,
+    )
+
 pub returns : goal.returns
 returns c = record {
-  decided = λ accepts kept event. decides accepts kept.name kept.progress event;
-  stage = λ accepts kept event. stages accepts kept.name kept.progress event;
+  decided = λ accepts kept event.
+      ap (λ role. decision_at (login_step kept.progress role) accepts kept.name event)
+      (sym (roles event));
+  stage = stages;
+  names = names;
   members = λ accepts before event needs step.
       let kept = kept_after_all accepts nobody before in
-      logged_in-stage accepts before (ap is_logged_in (sym (all_stages accepts nobody before))
-      ∙ passed accepts kept.name kept.progress event needs step);
+      logged_in-stage accepts before
+      (ap (λ (stage : Stage). is_logged_in stage.progress) (sym (all_stages accepts nobody before))
+      ∙ member kept.progress (role_in event) needs
+      (ap (login_step kept.progress) (sym (roles event)) ∙ step));
   served = λ accepts before event is other.
       let kept = kept_after_all accepts nobody before in
-      passes accepts kept.name kept.progress event other
-      (all_stages accepts nobody before ∙ IsLoggedIn-stage accepts before is);
+      let logged : kept.progress ≡ LoggedIn =
+      ap (λ (stage : Stage). stage.progress) (all_stages accepts nobody before)
+      ∙ IsLoggedIn-stage accepts before is in
+      ap (login_step kept.progress) (roles event)
+      ∙ passed-step kept.progress event other
+      (ap (λ progress. needs_login event && not (is_logged_in progress)) logged
+      ∙ none (needs_login event));
   numbers = numbered;
   zero = refl;
 }

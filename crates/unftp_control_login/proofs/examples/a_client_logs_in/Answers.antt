@@ -2,8 +2,9 @@ use Rattle.std.proofs.Common.{◌≡◌, true, false, [], ◌∷◌, ◌++◌, a
 use Rattle.std.proofs.lemmas.Bool.{false≢true}
 use Rattle.unftp_control_defs.specs.FtpCommand.{Noop, Pwd}
 use Rattle.unftp_control_defs.specs.Events.{Command}
+use Rattle.unftp_control_login.specs.declared.stage.Stage.{Stage}
 use Rattle.unftp_control_login.specs.Examples.{anna, login, only_anna, pass, secret, user, wrong}
-use Rattle.unftp_control_login.proofs.ExampleLemmas.{name_of, not-logged-in}
+use Rattle.unftp_control_login.proofs.ExampleLemmas.{not-logged-in}
 use Rattle.unftp_control_login.proofs.StageLemmas.{GaveName-stage}
 use Rattle.unftp_control_login.proofs.examples.a_client_logs_in.Goals as goal
 
@@ -41,5 +42,5 @@ returns-clause-name_given c =
 pub returns-clause-name_changed : goal.returns-clause-name_changed
 returns-clause-name_changed c = λ h.
     let same : wrong ≡ anna =
-    ap name_of (GaveName-stage only_anna anna (user anna ∷ user wrong ∷ []) h) in
+    ap (λ (stage : Stage). stage.name) (GaveName-stage only_anna anna (user anna ∷ user wrong ∷ []) h) in
     let first : false ≡ true = ap (λ name. bytes_eq name anna) same in absurd (false≢true first)

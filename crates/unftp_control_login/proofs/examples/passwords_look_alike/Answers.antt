@@ -8,7 +8,8 @@ use Rattle.unftp_control_defs.specs.Run.{last_state, run_of}
 use Rattle.unftp_control_defs.proofs.LineEventLemmas.{events-canonical_line}
 use Rattle.unftp_control_serve.specs.Endings.{Snapshot, Cause, LineMemory, ReplyMemory, IsCauseOf, EndsAt, RunFailed}
 use Rattle.unftp_control_serve.specs.declared.error.ServeError.TheVariants as error
-use Rattle.unftp_control_login.specs.declared.stage.Stage.TheVariants.{NoName, Named}
+use Rattle.unftp_control_login.specs.declared.stage.Progress.TheVariants.{NoName, Named}
+use Rattle.unftp_control_login.specs.declared.stage.Stage.{Stage}
 use Rattle.unftp_control_login.specs.Examples.{anna, anna_and_ben, ben, counting, here, only_anna, wrong}
 use Rattle.unftp_control_login.proofs.ExampleLemmas.{gave, given-name}
 use Rattle.unftp_control_login.proofs.StageLemmas.{GaveName-stage}
@@ -29,7 +30,8 @@ returns-clause-told_apart c = λ same.
 
 pub returns-clause-no_name : goal.returns-clause-no_name
 returns-clause-no_name c = λ name given.
-    let none : NoName ≡ Named name = GaveName-stage only_anna name [] given in absurd (cc)
+    let none : NoName ≡ Named =
+    ap (λ (stage : Stage). stage.progress) (GaveName-stage only_anna name [] given) in absurd (cc)
 
 pub returns-clause-each : goal.returns-clause-each
 returns-clause-each c = (

@@ -17,6 +17,4 @@ returns c = record {
   refused_first = λ proxy out why. let e = why.1.means in absurd (cc);
   owed = λ proxy out start why. absurd (false≢true (sym why.0 ∙ ap owes_reply start));
   short = λ proxy out six why. omega (arith, six, why.2);
-  full = refl;
-  not_sent = refl;
 }
