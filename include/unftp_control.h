@@ -37,6 +37,8 @@
  *     unftp_log_exchange           shown, replies      out, len                 40 n + 100
  *     unftp_client_line            client, line        client, place            none
  *     unftp_client_reply           client, code        client, place            none
+ *     unftp_client_take            client              client                   none
+ *     unftp_client_answer          client, code        client                   none
  *     unftp_client_owed            client              nothing                  none
  *     unftp_client_may_begin_tls   client, pending     nothing                  none
  *     unftp_login_event            login, event        login                    none
@@ -259,7 +261,8 @@ struct unftp_found_reply {
 
 /* What a client keeps of its dialogue with a server, beside the bytes. At the start all is 0. Under
    TLS the same struct goes on: the server sends no second greeting, for which a new one would
-   wait. */
+   wait. A call on a copy of the struct notes nothing, and returns what the call would return:
+   whether unftp_client_take or unftp_client_answer is refused, and what the next reply is to. */
 struct unftp_client {
     /* How many lines were noted. */
     uint64_t sent;
@@ -273,6 +276,8 @@ struct unftp_client {
     uint32_t asks;
     /* Not 0 where the last reply was a 234 to that line. */
     uint32_t agreed;
+    /* Not 0 where a line of a proxy's own client is taken, and neither sent nor answered yet. */
+    uint32_t taken;
 };
 
 /* What a reply is to. */
@@ -637,6 +642,9 @@ enum unftp_result unftp_log_exchange(const char *shown, size_t shown_len,
  * Any such line is noted, also one that is no command. It asks for TLS where it is AUTH, one space
  * and TLS or SSL, in letters of any case, and CR LF or LF. Any other line doesn't, though
  * unftp_next may read AUTH in it, as in "AUTH\rTLS\r\n": after a 234 to that no TLS may begin.
+ *
+ * In a proxy it is sent for the line that unftp_client_take has taken. Where none is taken, the
+ * call takes the next one itself: a client that is no proxy needs no other call.
  */
 enum unftp_result unftp_client_line(struct unftp_client *client, const char *line, size_t line_len,
                                     uint64_t *place) UNFTP_NONNULL;
@@ -647,7 +655,9 @@ enum unftp_result unftp_client_line(struct unftp_client *client, const char *lin
  * finds. A server replies in order (RFC 959, sections 4.2 and 5.4): the greeting comes first, then
  * the replies to each line. After one whose code is from 100 to 199 another follows to the same.
  * A proxy ends the session at a reply to nothing, as a 421: its own client would take it for the
- * reply to the next line.
+ * reply to the next line. It may hold a reply back, as that to a download until its client has the
+ * data: a call on a copy of the struct says what it is to, and it is noted when the client gets it.
+ * Until then it is owed, and no answer gets before it.
  *
  * Nothing in a reply says what it is to, so a server that doesn't keep the order is not noticed:
  * pyftpdlib answers NOOP within a transfer before the 226, and both replies are then given to the
@@ -658,8 +668,28 @@ enum unftp_to unftp_client_reply(struct unftp_client *client, uint32_t code,
                                  uint64_t *place) UNFTP_NONNULL;
 
 /*
- * How many lines are owed their final reply. A proxy answers a line of its own client itself only
- * where greeted is not 0 and this is 0: so each line gets its replies in order.
+ * Takes the next line of a proxy's own client, and returns 1. The proxy then sends a line for it,
+ * which unftp_client_line notes, or answers it by unftp_client_answer. The call returns 0, and
+ * nothing changes, where the line has to wait: the one before it is neither sent nor answered yet;
+ * or a line that asks for TLS awaits its reply, and what comes after it may be no line (RFC 4217,
+ * section 4).
+ *
+ * A proxy gives its client each reply of the server, unless it is to nothing, and each answer for
+ * which unftp_client_answer returns 1. Whatever calls it makes, its client then gets the greeting
+ * and one exchange for each line that was taken, in order.
+ */
+uint32_t unftp_client_take(struct unftp_client *client) UNFTP_NONNULL;
+
+/*
+ * Notes that a proxy answers the line that it has taken, by a reply with this code, and returns 1:
+ * its client then has to get that reply. It returns 0, and nothing changes, where no line is taken;
+ * where the server owes a reply, also the greeting; or where the code is from 100 to 199, since
+ * another reply would have to follow. While the server owes a reply, the proxy holds its answer.
+ */
+uint32_t unftp_client_answer(struct unftp_client *client, uint32_t code) UNFTP_NONNULL;
+
+/*
+ * How many lines are owed their final reply.
  */
 uint64_t unftp_client_owed(const struct unftp_client *client) UNFTP_NONNULL;
 

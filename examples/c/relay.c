@@ -173,12 +173,13 @@ static void hold_answer(struct session *session, enum unftp_code code, const cha
 }
 
 /* Gives the answer that is held, once all lines before it have their replies; false where it has to
-   wait. */
+   wait. There has to be room first: an answer that is noted is given. */
 static bool give_held(struct session *session)
 {
     if (session->held_text == NULL)
         return true;
-    if (!is_answered(session) || make_room(&session->client.to) < ANSWER_ROOM)
+    if (make_room(&session->client.to) < ANSWER_ROOM
+        || unftp_client_answer(&session->dialogue, session->held_code) == 0)
         return false;
     give_answer(session, session->held_code, session->held_text);
     session->held_text = NULL;
@@ -255,7 +256,13 @@ static bool drop_telnet(struct session *session)
     return true;
 }
 
-/* Takes the client's next line; false where there is none yet. */
+/* Whether the client's next line may be taken. A call on a copy notes nothing. */
+static bool may_take(struct unftp_client copy)
+{
+    return unftp_client_take(&copy) != 0;
+}
+
+/* Takes the client's next line; false where there is none yet, or it has to wait. */
 static bool take_line(struct session *session)
 {
     struct buffer *from = &session->client.from;
@@ -265,10 +272,11 @@ static bool take_line(struct session *session)
 
     if (session->drops_lines)
         drop(from, pending(from));
-    if (session->drops_lines || !drop_telnet(session))
+    if (session->drops_lines || !drop_telnet(session) || !may_take(session->dialogue))
         return false;
     result = unftp_next(&session->connection, front(from), pending(from), area, sizeof area, &line);
     if (result != UNFTP_MORE) {
+        unftp_client_take(&session->dialogue);
         log_line(result, front(from), line.used);
         decide(session, result, front(from), line.used);
     }

@@ -1,3 +1,4 @@
+use crate::code::ReplyCode;
 use crate::command::Command;
 use crate::error::Error;
 use crate::ffi;
@@ -123,12 +124,13 @@ impl<T> Dialogue<T> {
 
     /// Notes a reply, and says what it is to: a line's place, and its value.
     pub(crate) fn reply(&mut self, code: u16) -> To<(u64, ReplyValue<'_, T>)> {
-        match ffi::client_reply(&mut self.state, u32::from(code)) {
-            (ffi::TO_GREETING, _) => To::Greeting,
-            (ffi::TO_COMMAND, place) => To::Command((place, self.replied_value())),
-            (ffi::TO_NOTHING, _) => To::Nothing,
-            (to, _) => unreachable!("`to_number` of unftp_client_reply gives no {to}"),
-        }
+        reply_to(&mut self.state, code).map(move |place| (place, self.replied_value()))
+    }
+
+    /// What the next reply is to, which is not noted: the value of a line.
+    fn next_to(&self, code: u16) -> To<&T> {
+        let mut copy = self.state;
+        reply_to(&mut copy, code).map(|_| self.values.front().expect(HAS_VALUE))
     }
 
     /// The value of the line to which the last reply is.
@@ -138,7 +140,7 @@ impl<T> Dialogue<T> {
             true => self.values.pop_front().map(ReplyValue::Final),
             false => self.values.front_mut().map(ReplyValue::Preliminary),
         };
-        value.expect("each line that is owed its final reply has a value")
+        value.expect(HAS_VALUE)
     }
 
     /// Whether the greeting is complete.
@@ -159,6 +161,18 @@ impl<T> Dialogue<T> {
     /// Whether TLS may begin, where so many bytes are pending.
     pub(crate) fn may_begin_tls(&self, pending: usize) -> bool {
         ffi::client_may_begin_tls(&self.state, pending)
+    }
+}
+
+const HAS_VALUE: &str = "each line that is owed its final reply has a value";
+
+/// Notes a reply in a state, and says what it is to: a line's place.
+fn reply_to(state: &mut ffi::Client, code: u16) -> To {
+    match ffi::client_reply(state, u32::from(code)) {
+        (ffi::TO_GREETING, _) => To::Greeting,
+        (ffi::TO_COMMAND, place) => To::Command(place),
+        (ffi::TO_NOTHING, _) => To::Nothing,
+        (to, _) => unreachable!("`to_number` of unftp_client_reply gives no {to}"),
     }
 }
 
@@ -220,6 +234,14 @@ impl<T> Dialogue<T> {
 /// assert!(client.values().eq(&["c.txt"]));
 /// # Ok::<(), unftp_control::Error>(())
 /// ```
+///
+/// # A proxy
+///
+/// A proxy is a client of the server, and takes the lines of a client of its own. It takes each by
+/// [`take_line`](Client::take_line), and gives its client each reply that it takes here, unless it
+/// is to nothing, and each reply of its own for which [`answer`](Client::answer) returns true.
+/// Whatever calls it makes, its client then gets the greeting and one exchange for each line that
+/// was taken, in order.
 #[derive(Clone, Debug)]
 pub struct Client<T = ()> {
     replies: ReplyDecoder,
@@ -361,6 +383,88 @@ impl<T> Client<T> {
         let Some(reply) = self.replies.next_reply()? else { return Ok(None) };
         let to = self.dialogue.reply(reply.code()).map(|(_, value)| value);
         Ok(Some(ClientReply { to, reply }))
+    }
+
+    /// The reply that [`next_reply_with`](Client::next_reply_with) takes, with the value of the
+    /// command that it is to. It stays pending, and owed. So a proxy may hold it back, as until its
+    /// own client has the data, and no answer gets before it.
+    ///
+    /// ```
+    /// use unftp_control::{Client, Command, ReplyCode, To};
+    ///
+    /// let mut server = Client::with_values();
+    /// let retr = Command::Retr { path: "a.txt".into() };
+    /// server.send_with(&retr, "a download", &mut Vec::new())?;
+    /// server.receive(b"220 Ready\r\n226 Done\r\n")?;
+    /// server.next_reply_with()?;
+    ///
+    /// let held = server.first_reply_with()?.expect("a reply");
+    /// assert_eq!((held.to, held.reply.code()), (To::Command(&"a download"), 226));
+    /// assert!(server.take_line());
+    /// assert!(!server.answer(ReplyCode::COMMAND_NOT_IMPLEMENTED));
+    ///
+    /// // the client has the data
+    /// assert!(server.next_reply_with()?.is_some());
+    /// assert!(server.answer(ReplyCode::COMMAND_NOT_IMPLEMENTED));
+    /// # Ok::<(), unftp_control::Error>(())
+    /// ```
+    ///
+    /// # Errors
+    ///
+    /// Those of [`next_reply`](Client::next_reply).
+    pub fn first_reply_with(&mut self) -> Result<Option<ClientReply<'_, &T>>, Error> {
+        let Some(reply) = self.replies.first_reply()? else { return Ok(None) };
+        let to = self.dialogue.next_to(reply.code());
+        Ok(Some(ClientReply { to, reply }))
+    }
+
+    /// Whether [`take_line`](Client::take_line) would return true.
+    pub fn may_take_line(&self) -> bool {
+        let mut copy = self.dialogue.state;
+        ffi::client_take(&mut copy)
+    }
+
+    /// Notes that a proxy takes the next line of its own client, and returns true. The proxy then
+    /// [sends](Client::send_line_with) a line for it, or [answers](Client::answer) it. It returns
+    /// false, and nothing changes, where the line has to wait: the one before it is neither sent
+    /// nor answered yet, or a line that asks for TLS awaits its reply (RFC 4217, section 4).
+    #[must_use = "where it is false, the line is not taken"]
+    pub fn take_line(&mut self) -> bool {
+        ffi::client_take(&mut self.dialogue.state)
+    }
+
+    /// Whether [`answer`](Client::answer) would return true.
+    pub fn may_answer(&self, code: ReplyCode) -> bool {
+        let mut copy = self.dialogue.state;
+        ffi::client_answer(&mut copy, u32::from(code.get()))
+    }
+
+    /// Notes that a proxy answers the line that it has taken, by a reply with this code, and
+    /// returns true: its client then has to get that reply. It returns false, and nothing changes,
+    /// where no line is taken; where the server owes a reply, also the greeting; or where the code
+    /// is preliminary, since another reply would have to follow (RFC 959, section 5.4).
+    ///
+    /// ```
+    /// use unftp_control::{Client, ReplyCode};
+    ///
+    /// let (mut server, mut output) = (Client::new(), Vec::new());
+    /// assert!(server.take_line());
+    /// server.send_line(b"NOOP\r\n", &mut output)?;
+    ///
+    /// // the proxy doesn't send the next line, and its answer has to wait
+    /// assert!(server.take_line());
+    /// assert!(!server.answer(ReplyCode::COMMAND_NOT_IMPLEMENTED));
+    /// assert!(!server.may_take_line());
+    ///
+    /// // the client gets the greeting and the reply to NOOP, and then the answer
+    /// server.receive(b"220 Ready\r\n200 OK\r\n")?;
+    /// while server.next_reply()?.is_some() {}
+    /// assert!(server.answer(ReplyCode::COMMAND_NOT_IMPLEMENTED));
+    /// # Ok::<(), unftp_control::Error>(())
+    /// ```
+    #[must_use = "where it is false, the client is not to get the reply yet"]
+    pub fn answer(&mut self, code: ReplyCode) -> bool {
+        ffi::client_answer(&mut self.dialogue.state, u32::from(code.get()))
     }
 
     /// The values of the commands that are owed their final reply, in the order in which they were

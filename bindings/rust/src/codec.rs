@@ -244,7 +244,7 @@ impl Decoder for FtpClientCodec {
     type Error = CodecError;
 
     fn decode(&mut self, src: &mut BytesMut) -> Result<Option<Self::Item>, CodecError> {
-        let Some(reply) = self.search.find(src)?.map(ReceivedReply::into_owned) else {
+        let Some(reply) = self.search.take(src)?.map(ReceivedReply::into_owned) else {
             return Ok(None);
         };
         src.advance(reply.bytes().len());

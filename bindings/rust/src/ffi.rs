@@ -80,9 +80,9 @@ pub(crate) struct FoundReply {
     pub(crate) code: u32,
 }
 
-/// `struct unftp_client`.
+/// `struct unftp_client`. A call on a copy notes nothing.
 #[repr(C)]
-#[derive(Clone, Debug, Default)]
+#[derive(Clone, Copy, Debug, Default)]
 pub(crate) struct Client {
     pub(crate) sent: u64,
     pub(crate) answered: u64,
@@ -90,6 +90,7 @@ pub(crate) struct Client {
     pub(crate) greeted: u32,
     pub(crate) asks: u32,
     pub(crate) agreed: u32,
+    pub(crate) taken: u32,
 }
 
 /// `struct unftp_login`.
@@ -230,6 +231,12 @@ extern "C" {
 
     #[cfg_attr(not(feature = "system"), link_name = own_name!("client_reply"))]
     fn unftp_client_reply(client: *mut Client, code: u32, place: *mut u64) -> u32;
+
+    #[cfg_attr(not(feature = "system"), link_name = own_name!("client_take"))]
+    fn unftp_client_take(client: *mut Client) -> u32;
+
+    #[cfg_attr(not(feature = "system"), link_name = own_name!("client_answer"))]
+    fn unftp_client_answer(client: *mut Client, code: u32) -> u32;
 
     #[cfg_attr(not(feature = "system"), link_name = own_name!("client_owed"))]
     fn unftp_client_owed(client: *const Client) -> u64;
@@ -592,6 +599,20 @@ pub(crate) fn client_reply(client: &mut Client, code: u32) -> (u32, u64) {
     // mutably borrowed, and has the header's form, and `place` is a variable of this function.
     let to = unsafe { unftp_client_reply(client, code, &mut place) };
     (to, place)
+}
+
+/// Calls `unftp_client_take`: whether a line was taken.
+pub(crate) fn client_take(client: &mut Client) -> bool {
+    check_version();
+    // SAFETY: the pointer is of a mutable reference, and the struct has the header's form.
+    unsafe { unftp_client_take(client) != 0 }
+}
+
+/// Calls `unftp_client_answer`: whether the answer was noted.
+pub(crate) fn client_answer(client: &mut Client, code: u32) -> bool {
+    check_version();
+    // SAFETY: the pointer is of a mutable reference, and the struct has the header's form.
+    unsafe { unftp_client_answer(client, code) != 0 }
 }
 
 /// Calls `unftp_client_owed`.

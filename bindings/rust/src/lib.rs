@@ -53,10 +53,9 @@
 //!
 //! [`forward`] is the line that a proxy sends to a server for a client's line, and [`canonical`]
 //! the one line that means what a client's line does. A proxy sends no line that is not
-//! [clear](Forwarded::is_clear): one with bytes that servers read in different ways. With a
-//! [`Client`] toward the server, a line that the proxy answers itself waits until the
-//! [greeting](Client::is_greeted) is complete, [`owed`](Client::owed) is 0, and the proxy has passed
-//! on each reply that it has taken.
+//! [clear](Forwarded::is_clear): one with bytes that servers read in different ways. A [`Client`]
+//! toward the server keeps the order: [`take_line`](Client::take_line) takes the next line of the
+//! proxy's own client, and [`answer`](Client::answer) says whether the proxy may answer it now.
 #![cfg_attr(
     feature = "tokio-util",
     doc = "Under tokio a [`ProxyCodec`] sends the client the server's replies as they came."

@@ -61,11 +61,16 @@ impl ReplyDecoder {
     /// a reply, and else [`Error::MalformedReply`] where the first line opens none. Which one it is
     /// doesn't depend on the pieces. The bytes are still pending, and no reply comes any more.
     pub fn next_reply(&mut self) -> Result<Option<ReceivedReply<'_>>, Error> {
-        let reply = self.search.find(&self.received[self.used..])?;
+        let reply = self.search.take(&self.received[self.used..])?;
         if let Some(reply) = &reply {
             self.used += reply.bytes().len();
         }
         Ok(reply)
+    }
+
+    /// The reply that [`next_reply`](ReplyDecoder::next_reply) takes, which stays pending.
+    pub(crate) fn first_reply(&mut self) -> Result<Option<ReceivedReply<'_>>, Error> {
+        self.search.find(&self.received[self.used..])
     }
 
     /// The bytes that are pending.
@@ -102,19 +107,40 @@ pub(crate) struct Search {
     passed: usize,
     /// How many bytes were searched for the end of a line.
     searched: usize,
+    /// The code of the first reply and how many bytes it has, once it is complete.
+    found: Option<(u16, usize)>,
 }
 
 impl Search {
     /// A limit of 0 is none.
     pub(crate) fn new(limit: usize) -> Search {
-        Search { limit, passed: 0, searched: 0 }
+        Search { limit, passed: 0, searched: 0, found: None }
     }
 
-    /// The first reply of the pending bytes.
+    /// The first reply of the pending bytes. Its owner then drops its bytes.
+    pub(crate) fn take<'a>(
+        &mut self,
+        pending: &'a [u8],
+    ) -> Result<Option<ReceivedReply<'a>>, Error> {
+        let reply = self.find(pending)?;
+        if reply.is_some() {
+            self.restart();
+        }
+        Ok(reply)
+    }
+
+    /// The first reply of the pending bytes. Until it is taken, no byte of it is searched again.
     pub(crate) fn find<'a>(
         &mut self,
         pending: &'a [u8],
     ) -> Result<Option<ReceivedReply<'a>>, Error> {
+        if self.found.is_none() {
+            self.found = self.search(pending)?;
+        }
+        Ok(self.found.map(|(code, used)| ReceivedReply::borrowed(code, &pending[..used])))
+    }
+
+    fn search(&mut self, pending: &[u8]) -> Result<Option<(u16, usize)>, Error> {
         let bytes = match self.limit {
             0 => pending,
             limit => &pending[..limit.min(pending.len())],
@@ -126,10 +152,7 @@ impl Search {
         while let Some(end) = self.line_end(bytes) {
             if self.passed == 0 || ends_reply(bytes, self.passed) {
                 match front_reply(&bytes[..end]) {
-                    FrontReply::Whole { code, used } => {
-                        self.restart();
-                        return Ok(Some(ReceivedReply::borrowed(code, &bytes[..used])));
-                    }
+                    FrontReply::Whole { code, used } => return Ok(Some((code, used))),
                     FrontReply::Malformed => {
                         self.restart();
                         return Err(Error::MalformedReply);
@@ -146,7 +169,7 @@ impl Search {
     }
 
     fn restart(&mut self) {
-        (self.passed, self.searched) = (0, 0);
+        (self.passed, self.searched, self.found) = (0, 0, None);
     }
 
     /// The end of the first line that is not passed.
@@ -183,9 +206,14 @@ mod tests {
                 [0, 7, 14, 20][pending.split(|byte| *byte == b'\n').count() - 1]
             );
         }
-        pending.extend_from_slice(b"\r\n");
-        assert!(search.find(&pending)?.is_some());
-        assert_eq!((search.searched, search.passed), (0, 0));
+        pending.extend_from_slice(b"\r\n220 Ready\r\n");
+        let first = search.find(&pending)?.map(ReceivedReply::into_owned);
+        assert_eq!(first.as_ref().map(|reply| reply.bytes().len()), Some(pending.len() - 11));
+        let found = (search.searched, search.passed, search.found);
+        assert_eq!(search.find(&pending)?, first);
+        assert_eq!((search.searched, search.passed, search.found), found);
+        assert_eq!(search.take(&pending)?, first);
+        assert_eq!((search.searched, search.passed, search.found), (0, 0, None));
         Ok(())
     }
 }

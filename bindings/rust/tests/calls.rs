@@ -465,6 +465,178 @@ fn values_are_in_the_order_of_their_lines() -> Result<(), Error> {
     Ok(())
 }
 
+/// The codes of the replies that a client takes.
+fn taken_codes(server: &mut Client) -> Result<Vec<u16>, Error> {
+    let mut codes = Vec::new();
+    while let Some(taken) = server.next_reply()? {
+        codes.push(taken.reply.code());
+    }
+    Ok(codes)
+}
+
+#[test]
+fn a_line_is_taken_once_the_last_one_is_sent_or_answered() -> Result<(), Error> {
+    let (mut server, mut output) = (Client::new(), Vec::new());
+    assert!(server.may_take_line() && server.may_take_line() && server.take_line());
+    assert!(!server.may_take_line() && !server.take_line());
+    assert_eq!(server.send_line(b"NOOP", &mut output), Err(Error::NotALine));
+    assert!(!server.take_line());
+    server.send_line(b"NOOP\r\n", &mut output)?;
+    assert!(server.take_line());
+    server.receive(b"220 Ready\r\n200 OK\r\n")?;
+    assert_eq!(taken_codes(&mut server)?, [220, 200]);
+    assert!(!server.take_line());
+    assert!(server.answer(ReplyCode::COMMAND_NOT_IMPLEMENTED) && server.may_take_line());
+    assert_eq!((server.sent(), output.as_slice()), (1, &b"NOOP\r\n"[..]));
+    Ok(())
+}
+
+/// What comes after AUTH TLS may be no line (RFC 4217, section 4).
+#[test]
+fn no_line_is_taken_while_auth_is_owed_its_reply() -> Result<(), Error> {
+    let (mut server, mut output) = (Client::new(), Vec::new());
+    assert!(server.take_line());
+    server.send_line(b"AUTH TLS\r\n", &mut output)?;
+    for replies in [&b""[..], b"220 Ready\r\n", b"120 Wait\r\n"] {
+        server.receive(replies)?;
+        taken_codes(&mut server)?;
+        assert!(!server.may_take_line() && !server.take_line());
+    }
+    server.receive(b"534 No\r\n")?;
+    assert_eq!(taken_codes(&mut server)?, [534]);
+    assert!(server.may_take_line() && server.take_line());
+    Ok(())
+}
+
+#[test]
+fn an_answer_is_given_once_nothing_is_owed_before_it() -> Result<(), Error> {
+    let refused = |server: &mut Client, code| !server.may_answer(code) && !server.answer(code);
+    let (mut server, code) = (Client::new(), ReplyCode::COMMAND_SYNTAX_ERROR);
+    assert!(refused(&mut server, code), "no line is taken");
+    assert!(server.take_line() && refused(&mut server, code), "the greeting is owed");
+    server.receive(b"120 Wait\r\n220 Ready\r\n")?;
+    assert!(refused(&mut server, code), "no reply was taken");
+    assert!(server.next_reply()?.is_some() && refused(&mut server, code));
+    assert!(server.next_reply()?.is_some() && server.may_answer(code));
+    for number in 100..=599 {
+        let code = ReplyCode::new(number).expect("a code");
+        assert_eq!(server.may_answer(code), number > 199);
+        assert!(number > 199 || refused(&mut server, code), "another reply would have to follow");
+    }
+    assert!(server.answer(code) && refused(&mut server, code), "it was answered");
+
+    server.send_line(b"NOOP\r\n", &mut Vec::new())?;
+    assert!(server.take_line() && refused(&mut server, code), "a reply is owed");
+    server.receive(b"150 Wait\r\n")?;
+    assert!(taken_codes(&mut server)? == [150] && refused(&mut server, code));
+    server.receive(b"200 OK\r\n")?;
+    assert!(taken_codes(&mut server)? == [200] && server.answer(code));
+    Ok(())
+}
+
+#[test]
+fn a_held_reply_stays_pending_and_owed() -> Result<(), Error> {
+    let mut server = Client::with_values();
+    let end = ReplyCode::COMMAND_NOT_IMPLEMENTED;
+    server.send_line_with(b"RETR a\r\n", "a download", &mut Vec::new())?;
+    assert_eq!(server.first_reply_with()?, None);
+    server.receive(b"220-Ready\r\n22")?;
+    assert_eq!(server.first_reply_with()?, None);
+    server.receive(b"0 Ready\r\n150 Opening\r\n226 Done\r\n421 Idle\r\n")?;
+    for (to, code) in [
+        (To::Greeting, 220),
+        (To::Command("a download"), 150),
+        (To::Command("a download"), 226),
+        (To::Nothing, 421),
+    ] {
+        let pending = server.bytes().to_vec();
+        for _ in 0..2 {
+            let held = server.first_reply_with()?.expect("a reply");
+            let value = match held.to {
+                To::Command(value) => To::Command(*value),
+                To::Greeting => To::Greeting,
+                To::Nothing => To::Nothing,
+            };
+            assert_eq!((value, held.reply.code()), (to, code));
+            assert_eq!((server.bytes(), server.is_greeted()), (&pending[..], code != 220));
+            assert_eq!(server.owed(), u64::from(code != 421));
+        }
+        assert!(code != 226 || server.take_line() && !server.answer(end));
+        // it is found, and more comes before it is taken
+        server.receive(b"")?;
+        assert_eq!(server.next_reply_with()?.map(|taken| taken.reply.code()), Some(code));
+    }
+    assert!(server.bytes().is_empty() && server.answer(end));
+    Ok(())
+}
+
+/// The law `calls_keep_the_order`, of calls in any order: the value of a line is its place among
+/// those of the proxy's client.
+#[test]
+fn whatever_is_called_each_line_has_one_exchange_in_order() -> Result<(), Error> {
+    let mut state = 1u64;
+    let mut random = |below: u64| {
+        state = state.wrapping_mul(6364136223846793005).wrapping_add(1442695040888963407);
+        (state >> 33) % below
+    };
+    let (mut server, mut greeted) = (Client::with_values(), false);
+    let (mut lines, mut is_taken, mut answered, mut own) = (0u64, false, 0u64, 0);
+    for _ in 0..100_000 {
+        let code = [120, 200, 234, 421, 502][random(5) as usize];
+        match random(6) {
+            0 if server.take_line() => {
+                assert!(!is_taken);
+                (lines, is_taken) = (lines + 1, true);
+            }
+            1 => {
+                (lines, is_taken) = (lines + u64::from(!is_taken), false);
+                let line = [&b"NOOP\r\n"[..], b"AUTH TLS\r\n"][random(2) as usize];
+                server.send_line_with(line, lines - 1, &mut Vec::new())?;
+            }
+            2 if server.answer(ReplyCode::new(code).expect("a code")) => {
+                assert!(greeted && is_taken && code != 120);
+                (is_taken, answered, own) = (false, answered + 1, own + 1);
+                assert_eq!(answered, lines);
+            }
+            3..=5 => {
+                server.receive(format!("{code} text\r\n").as_bytes())?;
+                let taken = server.next_reply_with()?.expect("a reply");
+                assert_eq!(greeted, taken.to != To::Greeting);
+                greeted |= code != 120;
+                match taken.to {
+                    To::Command(ReplyValue::Preliminary(line)) => assert_eq!(*line, answered),
+                    To::Command(ReplyValue::Final(line)) => {
+                        assert_eq!(line, answered);
+                        answered += 1;
+                    }
+                    To::Nothing => assert_eq!(answered, lines - u64::from(is_taken)),
+                    To::Greeting => {}
+                }
+            }
+            _ => {}
+        }
+    }
+    assert!(own > 100 && answered > 10_000, "{own} of {answered} answers are the proxy's own");
+    Ok(())
+}
+
+#[test]
+fn a_first_reply_is_refused_as_the_next_one_is() -> Result<(), Error> {
+    let mut server = Client::<u8>::with_limit_and_values(8);
+    server.receive(b"220 a\r\n220 too long\r\n")?;
+    assert!(server.first_reply_with()?.is_some() && server.next_reply_with()?.is_some());
+    for _ in 0..2 {
+        assert_eq!(server.first_reply_with(), Err(Error::ReplyTooLong));
+        assert_eq!(server.next_reply_with(), Err(Error::ReplyTooLong));
+    }
+    let mut server = Client::<u8>::with_values();
+    server.receive(b"what\r\n")?;
+    assert_eq!(server.first_reply_with(), Err(Error::MalformedReply));
+    assert_eq!(server.next_reply_with(), Err(Error::MalformedReply));
+    assert_eq!(server.bytes(), b"what\r\n");
+    Ok(())
+}
+
 #[test]
 fn texts_of_errors_are_short() {
     for (error, text) in [

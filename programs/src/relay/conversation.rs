@@ -38,6 +38,9 @@ pub enum End {
     Told(&'static str),
 }
 
+/// What ends the session where a line is taken or answered out of order, which no path does.
+const OUT_OF_ORDER: End = End::Told("The relay has lost the order of its replies");
+
 impl From<io::Error> for End {
     fn from(_: io::Error) -> End {
         End::Silent
@@ -94,12 +97,6 @@ struct Asked {
     purpose: Purpose,
 }
 
-/// A line with its final reply, which is not passed on yet.
-struct Replied {
-    asked: Asked,
-    reply: ReceivedReply<'static>,
-}
-
 /// What is done with a line.
 pub(super) enum Verdict {
     /// The server is sent this line.
@@ -120,11 +117,12 @@ pub struct Conversation {
     input: BytesMut,
     /// Complete lines may be left in `input`.
     has_lines: bool,
-    /// A line that the relay answers, once nothing is owed.
+    /// The line that is taken, and neither sent nor answered yet.
     waiting: Option<(OwnedLine, Exchange)>,
+    /// The order of lines and replies. A reply that waits for the data is not taken from it.
     dialogue: Client<Asked>,
-    /// What waits for the data. All that `dialogue` has came after it.
-    held: Option<Replied>,
+    /// The next reply waits for the data.
+    pub is_holding: bool,
     pub(super) transfer: Option<Transfer>,
     pub(super) protection: Protection,
     /// What turns the client's connections to TLS, where it asks for that.
@@ -173,7 +171,7 @@ impl Conversation {
             has_lines: false,
             waiting: None,
             dialogue: Client::with_values(),
-            held: None,
+            is_holding: false,
             transfer: None,
             protection: Protection::default(),
             tls,
@@ -211,19 +209,9 @@ impl Conversation {
         self.input.len()
     }
 
-    /// Whether a reply waits for the data.
-    pub fn is_holding(&self) -> bool {
-        self.held.is_some()
-    }
-
     /// Whether each line has its reply.
     pub fn is_at_rest(&self) -> bool {
-        self.dialogue.is_greeted() && self.owed() == 0 && self.has_taken_all()
-    }
-
-    /// How many lines are owed their final reply, with the one whose reply waits for the data.
-    fn owed(&self) -> u64 {
-        self.dialogue.owed() + u64::from(self.held.is_some())
+        self.dialogue.is_greeted() && self.dialogue.owed() == 0 && self.has_taken_all()
     }
 
     /// Whether each line was sent to the server, or answered.
@@ -270,10 +258,10 @@ impl Conversation {
 
     /// Passes on the reply that waited for the data. Where the data was lost, the reply says so.
     pub fn release(&mut self) -> Result<(), End> {
-        if let Some(held) = self.held.take() {
-            let lost = || Reply::new(Code::CONNECTION_CLOSED, "The data connection was lost");
-            let is_lost = matches!(self.progress(), Some(Progress::Open | Progress::Failed));
-            self.finish(held, is_lost.then(lost))?;
+        let lost = || Reply::new(Code::CONNECTION_CLOSED, "The data connection was lost");
+        let is_lost = matches!(self.progress(), Some(Progress::Open | Progress::Failed));
+        if mem::take(&mut self.is_holding) {
+            self.take_reply(is_lost.then(lost))?;
         }
         self.advance()
     }
@@ -304,9 +292,7 @@ impl Conversation {
         if let Some(reply) = &last {
             reply.encode(&mut self.to_client)?;
         }
-        let held = self.held.take().map(|held| held.asked);
-        let asked = held.into_iter().chain(mem::take(&mut self.dialogue).into_values());
-        let owed = asked.map(|asked| asked.exchange);
+        let owed = mem::take(&mut self.dialogue).into_values().map(|asked| asked.exchange);
         for mut exchange in owed.chain(self.waiting.take().map(|(_, exchange)| exchange)) {
             match &last {
                 Some(reply) => exchange.note(Answer::Own(reply.clone())),
@@ -327,26 +313,55 @@ impl Conversation {
         }
     }
 
+    /// Takes all replies, unless one waits: the final one to a download waits for the data.
     fn take_replies(&mut self) -> Result<(), End> {
-        while self.held.is_none() {
-            let Some(taken) = self.dialogue.next_reply_with()? else { return Ok(()) };
-            let (to, reply) = (taken.to, taken.reply.into_owned());
+        while !self.is_holding {
+            let is_delivered = self.is_delivered();
+            let Some(first) = self.dialogue.first_reply_with()? else { return Ok(()) };
             self.is_active = true;
-            match to {
-                To::Greeting => self.greet(reply)?,
-                To::Command(ReplyValue::Preliminary(asked)) => {
-                    self.to_client.extend_from_slice(reply.bytes());
-                    asked.exchange.note(Answer::Received(reply));
+            if let To::Command(Asked { purpose, .. }) = first.to {
+                match (purpose, first.reply.code()) {
+                    (Purpose::Passive { .. }, 227 | 229) => {}
+                    // it stays owed: what ends the session answers its line
+                    (_, 227 | 229) => {
+                        return Err(End::Told("The server named an address that nobody asked for"));
+                    }
+                    (Purpose::Transfer { is_download: true }, 226 | 250) => {
+                        self.is_holding = !is_delivered;
+                    }
+                    _ => {}
                 }
-                To::Command(ReplyValue::Final(asked)) => {
-                    self.take_final(Replied { asked, reply })?
-                }
-                To::Nothing if reply.code() == 421 => {
-                    self.pass_unasked(reply);
-                    return Err(End::Silent);
-                }
-                To::Nothing => return Err(End::Told("The server sent a reply too many")),
             }
+            if !self.is_holding {
+                self.take_reply(None)?;
+            }
+        }
+        Ok(())
+    }
+
+    /// Takes a reply and passes it on, or what is sent instead of a final one.
+    fn take_reply(&mut self, instead: Option<Reply>) -> Result<(), End> {
+        let Some(taken) = self.dialogue.next_reply_with()? else { return Ok(()) };
+        let (to, reply) = (taken.to, taken.reply.into_owned());
+        match to {
+            To::Greeting => self.greet(reply)?,
+            To::Command(ReplyValue::Preliminary(asked)) => {
+                self.to_client.extend_from_slice(reply.bytes());
+                asked.exchange.note(Answer::Received(reply));
+            }
+            To::Command(ReplyValue::Final(Asked { exchange, purpose })) => {
+                self.is_closing = matches!(reply.code(), 221 | 421);
+                self.closes_at = None;
+                match instead.or_else(|| self.rewritten(purpose, &reply)) {
+                    Some(instead) => self.give(exchange, instead)?,
+                    None => self.pass(exchange, reply),
+                }
+            }
+            To::Nothing if reply.code() == 421 => {
+                self.pass_unasked(reply);
+                return Err(End::Silent);
+            }
+            To::Nothing => return Err(End::Told("The server sent a reply too many")),
         }
         Ok(())
     }
@@ -359,45 +374,19 @@ impl Conversation {
 
     /// Passes on a reply that is to no line.
     fn pass_unasked(&mut self, reply: ReceivedReply<'static>) {
-        self.to_client.extend_from_slice(reply.bytes());
-        let mut exchange = Exchange::new(self.session, self.addresses.client, None);
-        exchange.note(Answer::Received(reply));
-        self.exchanges.push(exchange);
+        self.pass(Exchange::new(self.session, self.addresses.client, None), reply);
     }
 
-    /// Passes on a final reply, or holds it until the client has all data.
-    fn take_final(&mut self, replied: Replied) -> Result<(), End> {
-        let (code, purpose) = (replied.reply.code(), &replied.asked.purpose);
-        let is_download = matches!(purpose, Purpose::Transfer { is_download: true });
-        if matches!(code, 227 | 229) && !matches!(purpose, Purpose::Passive { .. }) {
-            // what ends the session answers its line
-            self.held = Some(replied);
-            return Err(End::Told("The server named an address that nobody asked for"));
-        }
-        if is_download && matches!(code, 226 | 250) && !self.is_delivered() {
-            self.held = Some(replied);
-            return Ok(());
-        }
-        self.finish(replied, None)
+    /// Passes on the last reply of an exchange.
+    fn pass(&mut self, mut exchange: Exchange, reply: ReceivedReply<'static>) {
+        self.to_client.extend_from_slice(reply.bytes());
+        exchange.note(Answer::Received(reply));
+        self.exchanges.push(exchange);
     }
 
     /// Closes the data connection of a transfer that is aborted.
     pub fn close_transfer(&mut self) {
         (self.closes_at, self.transfer) = (None, None);
-    }
-
-    /// Passes on a final reply, or what is sent instead.
-    fn finish(&mut self, replied: Replied, instead: Option<Reply>) -> Result<(), End> {
-        let Replied { asked: Asked { mut exchange, purpose }, reply } = replied;
-        self.is_closing = matches!(reply.code(), 221 | 421);
-        self.closes_at = None;
-        if let Some(instead) = instead.or_else(|| self.rewritten(purpose, &reply)) {
-            return self.answer(exchange, instead);
-        }
-        self.to_client.extend_from_slice(reply.bytes());
-        exchange.note(Answer::Received(reply));
-        self.exchanges.push(exchange);
-        Ok(())
     }
 
     /// What the client is sent in place of a final reply, where that has to differ.
@@ -425,8 +414,10 @@ impl Conversation {
 
     /// Takes a line and does what is to be done with it, unless there is none or it has to wait.
     fn take_line(&mut self) -> Result<bool, End> {
-        let has_room = self.has_room() && self.owed() < MOST_OWED;
-        if !self.dialogue.is_greeted() || self.begins_tls || !has_room {
+        let has_room = self.has_room() && self.dialogue.owed() < MOST_OWED;
+        // the last line is sent or answered, or is answered now
+        let is_its_turn = self.dialogue.may_take_line() || self.may_answer();
+        if !self.dialogue.is_greeted() || self.begins_tls || !has_room || !is_its_turn {
             return Ok(false);
         }
         let (line, exchange) = match self.waiting.take() {
@@ -437,13 +428,14 @@ impl Conversation {
                     return Ok(false);
                 };
                 self.is_active = true;
-                let exchange = self.exchange(&line)?;
-                (line, exchange)
+                let shown = line.log_line()?;
+                let exchange = Exchange::new(self.session, self.addresses.client, Some(shown));
+                self.dialogue.take_line().then_some((line, exchange)).ok_or(OUT_OF_ORDER)?
             }
         };
         match self.decide(&line) {
             Verdict::Send(sent, purpose) => self.send(line, &sent, Asked { exchange, purpose })?,
-            _ if self.owed() > 0 => {
+            _ if !self.may_answer() => {
                 self.waiting = Some((line, exchange));
                 return Ok(false);
             }
@@ -456,13 +448,21 @@ impl Conversation {
         Ok(true)
     }
 
-    /// The exchange that a line begins.
-    fn exchange(&self, line: &OwnedLine) -> Result<Exchange, End> {
-        Ok(Exchange::new(self.session, self.addresses.client, Some(line.log_line()?)))
+    /// Whether the line that is taken may be answered. Each answer of the relay is final.
+    fn may_answer(&self) -> bool {
+        self.dialogue.may_answer(Code::COMMAND_OKAY)
+    }
+
+    /// Answers the line that is taken.
+    fn answer(&mut self, exchange: Exchange, reply: Reply) -> Result<(), End> {
+        match self.dialogue.answer(reply.code()) {
+            true => self.give(exchange, reply),
+            false => Err(OUT_OF_ORDER),
+        }
     }
 
     /// Sends the client a reply of the relay.
-    fn answer(&mut self, mut exchange: Exchange, reply: Reply) -> Result<(), End> {
+    fn give(&mut self, mut exchange: Exchange, reply: Reply) -> Result<(), End> {
         reply.encode(&mut self.to_client)?;
         exchange.note(Answer::Own(reply));
         self.exchanges.push(exchange);
@@ -492,17 +492,15 @@ impl Conversation {
     /// Where the server counts its replies otherwise, a hidden line's reply comes as that to one of
     /// the others.
     fn hide_neighbours(&mut self) {
-        let held = self.held.iter().map(|held| &held.asked);
-        if held.chain(self.dialogue.values()).any(|asked| asked.exchange.is_hidden()) {
-            let held = self.held.iter_mut().map(|held| &mut held.asked);
-            held.chain(self.dialogue.values_mut()).for_each(|asked| asked.exchange.hide());
+        if self.dialogue.values().any(|asked| asked.exchange.is_hidden()) {
+            self.dialogue.values_mut().for_each(|asked| asked.exchange.hide());
         }
     }
 
     /// No reply waits for the data of what is aborted: the client may not read it any more.
     fn abort(&mut self) -> Result<(), End> {
-        if let Some(held) = self.held.take() {
-            self.finish(held, None)?;
+        if mem::take(&mut self.is_holding) {
+            self.take_reply(None)?;
         }
         for asked in self.dialogue.values_mut() {
             if matches!(asked.purpose, Purpose::Transfer { .. }) {

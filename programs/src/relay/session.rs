@@ -228,7 +228,7 @@ impl Session {
             from_client.reserve(PIECE);
             from_server.reserve(PIECE);
             let has_room = self.conversation.has_room();
-            let reads_server = has_room && !self.conversation.is_holding();
+            let reads_server = has_room && !self.conversation.is_holding;
             tokio::select! {
                 read = reader.read_buf(&mut from_client), if has_room && self.reads_client() => {
                     self.is_client_gone = read? == 0;
@@ -255,7 +255,7 @@ impl Session {
                 {
                     written?;
                 }
-                () = transferred, if self.conversation.is_holding() => {
+                () = transferred, if self.conversation.is_holding => {
                     self.conversation.release()?;
                 }
                 () = until(self.conversation.closes_at) => self.conversation.close_transfer(),

@@ -62,6 +62,16 @@ struct turn {
     uint32_t begins; /* whether TLS may begin */
 };
 
+/* A call of a proxy, what it returns, and whether a line is taken then. */
+struct step {
+    /* PEEK is what PASS is, on a copy of the struct */
+    enum { TAKE, SEND, PEEK, PASS, ANSWER } call;
+    const char *line; /* of SEND */
+    uint32_t code;    /* of PEEK, PASS and ANSWER */
+    uint32_t returns;
+    uint32_t taken;
+};
+
 /* An event of a login, what is done with it, and what the accounts say then. */
 struct event {
     uint32_t number;
@@ -835,13 +845,14 @@ static void check_exchange(struct bytes input)
 static bool are_same_clients(struct unftp_client left, struct unftp_client right)
 {
     return left.sent == right.sent && left.answered == right.answered && left.asked == right.asked
-        && left.greeted == right.greeted && left.asks == right.asks && left.agreed == right.agreed;
+        && left.greeted == right.greeted && left.asks == right.asks && left.agreed == right.agreed
+        && left.taken == right.taken;
 }
 
 /* Takes the turns of one client. */
 static void take_turns(const struct turn *turns, size_t count)
 {
-    struct unftp_client client = {0, 0, 0, 0, 0, 0};
+    struct unftp_client client = {0, 0, 0, 0, 0, 0, 0};
 
     for (size_t at = 0; at < count; at++) {
         const struct turn *turn = &turns[at];
@@ -910,6 +921,80 @@ static void check_tls(void)
     take_turns(turns, sizeof turns / sizeof turns[0]);
 }
 
+/* Makes a call of a proxy. */
+static uint32_t make_step(struct unftp_client *client, const struct step *step)
+{
+    uint64_t place;
+
+    switch (step->call) {
+    case TAKE: return unftp_client_take(client);
+    case SEND: return unftp_client_line(client, step->line, strlen(step->line), &place);
+    case ANSWER: return unftp_client_answer(client, step->code);
+    default: return unftp_client_reply(client, step->code, &place);
+    }
+}
+
+/* A line is taken once the last one is sent or answered, and answered once no reply is owed. */
+static void check_order(void)
+{
+    static const struct step steps[] = {
+        /* no line is taken */
+        {ANSWER, NULL, 500, 0, 0},
+        {TAKE, NULL, 0, 1, 1},
+        /* one is taken, and the greeting is owed */
+        {TAKE, NULL, 0, 0, 1},
+        {ANSWER, NULL, 500, 0, 1},
+        {PASS, NULL, 120, UNFTP_TO_GREETING, 1},
+        {ANSWER, NULL, 500, 0, 1},
+        {PASS, NULL, 220, UNFTP_TO_GREETING, 1},
+        /* another reply would have to follow */
+        {ANSWER, NULL, 100, 0, 1},
+        {ANSWER, NULL, 199, 0, 1},
+        {ANSWER, NULL, 500, 1, 0},
+        {ANSWER, NULL, 500, 0, 0},
+        {TAKE, NULL, 0, 1, 1},
+        {SEND, "NOOP", 0, UNFTP_NO_LINE, 1},
+        {SEND, "RETR a\r\n", 0, UNFTP_DONE, 0},
+        {TAKE, NULL, 0, 1, 1},
+        {ANSWER, NULL, 200, 0, 1},
+        {PASS, NULL, 150, UNFTP_TO_COMMAND, 1},
+        {ANSWER, NULL, 200, 0, 1},
+        /* a reply that is held back is owed */
+        {PEEK, NULL, 226, UNFTP_TO_COMMAND, 1},
+        {ANSWER, NULL, 200, 0, 1},
+        {PASS, NULL, 226, UNFTP_TO_COMMAND, 1},
+        {ANSWER, NULL, 200, 1, 0},
+        /* a line that is sent where none is taken is taken by that */
+        {SEND, "NOOP\r\n", 0, UNFTP_DONE, 0},
+        {ANSWER, NULL, 200, 0, 0},
+        {TAKE, NULL, 0, 1, 1},
+        {SEND, "AUTH TLS\r\n", 0, UNFTP_DONE, 0},
+        /* what comes after AUTH may be no line */
+        {TAKE, NULL, 0, 0, 0},
+        {PASS, NULL, 200, UNFTP_TO_COMMAND, 0},
+        {TAKE, NULL, 0, 0, 0},
+        {PASS, NULL, 534, UNFTP_TO_COMMAND, 0},
+        {TAKE, NULL, 0, 1, 1},
+        {PASS, NULL, 421, UNFTP_TO_NOTHING, 1},
+        {ANSWER, NULL, 500, 1, 0},
+    };
+    struct unftp_client client = {0, 0, 0, 0, 0, 0, 0}, copy;
+
+    wants(sizeof client == 40, "how large the struct of a client is");
+    for (size_t at = 0; at < sizeof steps / sizeof steps[0]; at++) {
+        const struct step *step = &steps[at];
+        copy = client;
+        wants(make_step(&copy, step) == step->returns, "what a call on a copy returns");
+        if (step->call == PEEK)
+            continue;
+        wants((step->call != TAKE && step->call != ANSWER) || step->returns != 0
+                  || are_same_clients(copy, client),
+              "a call that is refused changes nothing");
+        wants(make_step(&client, step) == step->returns, "what a proxy's call returns");
+        wants(client.taken == step->taken, "whether a line is taken");
+    }
+}
+
 /* The lines that are clear. */
 static void check_clear(void)
 {
@@ -935,7 +1020,7 @@ static void check_clear(void)
 static void check_not_noted(void)
 {
     static const char *const lines[] = {"", "NOOP", "NOOP\r", "NOOP\r\nQUIT\r\n", "\nNOOP\r\n"};
-    const struct unftp_client kept = {7, 5, 3, 1, 1, 1}, full = {UINT64_MAX, 5, 3, 1, 1, 1};
+    const struct unftp_client kept = {7, 5, 3, 1, 1, 1, 1}, full = {UINT64_MAX, 5, 3, 1, 1, 1, 1};
     struct unftp_client client = kept;
     uint64_t place = 1;
 
@@ -1303,6 +1388,7 @@ int main(void)
     check_log_lines();
     check_replies();
     check_tls();
+    check_order();
     check_clear();
     check_not_noted();
     check_login();

@@ -534,7 +534,7 @@ static void show_received(struct unftp_client *client, struct bytes *pending)
 
 static bool answer_client(struct words *words)
 {
-    struct unftp_client client = {0, 0, 0, 0, 0, 0};
+    struct unftp_client client = {0, 0, 0, 0, 0, 0, 0};
     char *block = room_of(0);
     struct bytes pending = {block, 0};
     uint64_t place;

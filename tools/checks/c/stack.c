@@ -41,6 +41,8 @@ enum {
     LOG_EXCHANGE,
     CLIENT_LINE,
     CLIENT_REPLY,
+    CLIENT_TAKE,
+    CLIENT_ANSWER,
     CLIENT_OWED,
     CLIENT_MAY_BEGIN_TLS,
     LOGIN_EVENT,
@@ -71,6 +73,8 @@ static const char *const names[CALLS] = {
     "unftp_log_exchange",
     "unftp_client_line",
     "unftp_client_reply",
+    "unftp_client_take",
+    "unftp_client_answer",
     "unftp_client_owed",
     "unftp_client_may_begin_tls",
     "unftp_login_event",
@@ -111,6 +115,8 @@ static void call_with_state(int name, struct bytes input, size_t room)
     switch (name) {
     case CLIENT_LINE: unftp_client_line(&client, input.at, input.len, &place); break;
     case CLIENT_REPLY: unftp_client_reply(&client, turn % 600, &place); break;
+    case CLIENT_TAKE: unftp_client_take(&client); break;
+    case CLIENT_ANSWER: unftp_client_answer(&client, turn % 600); break;
     case CLIENT_OWED: unftp_client_owed(&client); break;
     case CLIENT_MAY_BEGIN_TLS: unftp_client_may_begin_tls(&client, room); break;
     case LOGIN_EVENT: unftp_login_event(&login, turn % 128); break;
