@@ -4,7 +4,7 @@
  *
  * made by: tools/generated --write
  * toolchain: rattle-kit-13f logic dac8208d650f15bf
- * sources: sha256 4069f83df28c4aec8b63f2f8f6f8539261332aef91673e650092edcbd14713cc
+ * sources: sha256 5841d7c6d1915e101e2d7a02793676745bb2fc2e1cc26b7439296688a4109b6d
  */
 	.section	".text.std_io::io::error::Error::from_raw_os_error","ax",@progbits
 	.p2align	2
