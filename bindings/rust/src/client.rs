@@ -4,7 +4,7 @@ use crate::error::Error;
 use crate::ffi;
 use crate::received::ReceivedReply;
 use crate::reply_decoder::{ReplyDecoder, REPLY_LIMIT};
-use std::collections::VecDeque;
+use std::collections::vec_deque::{IntoIter, Iter, IterMut, VecDeque};
 use std::error;
 use std::fmt::{self, Debug, Display, Formatter};
 
@@ -161,6 +161,38 @@ impl<T> Dialogue<T> {
     /// Whether TLS may begin, where so many bytes are pending.
     pub(crate) fn may_begin_tls(&self, pending: usize) -> bool {
         ffi::client_may_begin_tls(&self.state, pending)
+    }
+
+    /// Notes that a proxy takes the next line of its client, where it may.
+    pub(crate) fn take_line(&mut self) -> bool {
+        ffi::client_take(&mut self.state)
+    }
+
+    pub(crate) fn may_take_line(&self) -> bool {
+        let mut copy = self.state;
+        ffi::client_take(&mut copy)
+    }
+
+    /// Notes that a proxy answers the line that it has taken, where it may.
+    pub(crate) fn answer(&mut self, code: ReplyCode) -> bool {
+        ffi::client_answer(&mut self.state, u32::from(code.get()))
+    }
+
+    pub(crate) fn may_answer(&self, code: ReplyCode) -> bool {
+        let mut copy = self.state;
+        ffi::client_answer(&mut copy, u32::from(code.get()))
+    }
+
+    pub(crate) fn values(&self) -> Iter<'_, T> {
+        self.values.iter()
+    }
+
+    pub(crate) fn values_mut(&mut self) -> IterMut<'_, T> {
+        self.values.iter_mut()
+    }
+
+    pub(crate) fn into_values(self) -> IntoIter<T> {
+        self.values.into_iter()
     }
 }
 
@@ -420,8 +452,7 @@ impl<T> Client<T> {
 
     /// Whether [`take_line`](Client::take_line) would return true.
     pub fn may_take_line(&self) -> bool {
-        let mut copy = self.dialogue.state;
-        ffi::client_take(&mut copy)
+        self.dialogue.may_take_line()
     }
 
     /// Notes that a proxy takes the next line of its own client, and returns true. The proxy then
@@ -430,13 +461,12 @@ impl<T> Client<T> {
     /// nor answered yet, or a line that asks for TLS awaits its reply (RFC 4217, section 4).
     #[must_use = "where it is false, the line is not taken"]
     pub fn take_line(&mut self) -> bool {
-        ffi::client_take(&mut self.dialogue.state)
+        self.dialogue.take_line()
     }
 
     /// Whether [`answer`](Client::answer) would return true.
     pub fn may_answer(&self, code: ReplyCode) -> bool {
-        let mut copy = self.dialogue.state;
-        ffi::client_answer(&mut copy, u32::from(code.get()))
+        self.dialogue.may_answer(code)
     }
 
     /// Notes that a proxy answers the line that it has taken, by a reply with this code, and
@@ -464,25 +494,25 @@ impl<T> Client<T> {
     /// ```
     #[must_use = "where it is false, the client is not to get the reply yet"]
     pub fn answer(&mut self, code: ReplyCode) -> bool {
-        ffi::client_answer(&mut self.dialogue.state, u32::from(code.get()))
+        self.dialogue.answer(code)
     }
 
     /// The values of the commands that are owed their final reply, in the order in which they were
     /// sent.
     pub fn values(&self) -> impl DoubleEndedIterator<Item = &T> + ExactSizeIterator + '_ {
-        self.dialogue.values.iter()
+        self.dialogue.values()
     }
 
     /// The same values, to change them.
     pub fn values_mut(
         &mut self,
     ) -> impl DoubleEndedIterator<Item = &mut T> + ExactSizeIterator + '_ {
-        self.dialogue.values.iter_mut()
+        self.dialogue.values_mut()
     }
 
     /// The same values, at the end of the connection.
     pub fn into_values(self) -> impl DoubleEndedIterator<Item = T> + ExactSizeIterator {
-        self.dialogue.values.into_iter()
+        self.dialogue.into_values()
     }
 
     /// Whether the greeting is complete: its final reply was taken, whatever its code, as 220 or a

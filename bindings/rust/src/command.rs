@@ -426,16 +426,21 @@ impl Command<'_> {
             line.extend_from_slice(words[1]);
         }
         if let Some(value) = value {
-            line.push(b' ');
-            for part in value.split_inclusive(|byte| *byte == b'\r') {
-                line.extend_from_slice(part);
-                if part.ends_with(b"\r") {
-                    line.push(0);
-                }
-            }
+            push_value(&mut line, &value);
         }
         line.extend_from_slice(b"\r\n");
         line
+    }
+}
+
+/// Appends a space and a value, each CR of which is CR NUL (RFC 854).
+pub(crate) fn push_value(line: &mut Vec<u8>, value: &[u8]) {
+    line.push(b' ');
+    for part in value.split_inclusive(|byte| *byte == b'\r') {
+        line.extend_from_slice(part);
+        if part.ends_with(b"\r") {
+            line.push(0);
+        }
     }
 }
 

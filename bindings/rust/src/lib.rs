@@ -108,6 +108,8 @@ mod assembly;
 mod bytes;
 mod canonical;
 mod client;
+#[cfg(feature = "tokio-util")]
+mod client_codec;
 mod code;
 #[cfg(feature = "tokio-util")]
 mod codec;
@@ -140,9 +142,11 @@ pub use address::{
 };
 pub use canonical::{canonical, forward, is_clear, Forwarded};
 pub use client::{Client, ClientReply, ReplyValue, SendError, To};
+#[cfg(feature = "tokio-util")]
+pub use client_codec::{FtpClientCodec, NameLine, RawLine, SinkError, ToLine};
 pub use code::{ReplyCode, UnknownCode};
 #[cfg(feature = "tokio-util")]
-pub use codec::{CodecError, FtpClientCodec, FtpCodec, RawLine};
+pub use codec::{CodecError, FtpCodec};
 pub use command::Command;
 pub use error::Error;
 pub use event::{list_path, parameter, Event, Line, Refusal};

@@ -13,8 +13,8 @@ use tokio::io::{
 };
 use tokio_util::codec::{Decoder, Encoder, Framed, FramedRead};
 use unftp_control::{
-    is_clear, CodecError, Command, Error, Event, FtpClientCodec, FtpCodec, FtpLineCodec, Pending,
-    ProxyCodec, RawLine, Refusal, Reply, ReplyCode, To,
+    is_clear, CodecError, Command, Error, Event, FtpClientCodec, FtpCodec, FtpLineCodec, NameLine,
+    Pending, ProxyCodec, RawLine, Refusal, Reply, ReplyCode, ReplyValue, SinkError, To,
 };
 
 /// A reader that gives one piece after the other, and then the end or an error.
@@ -370,6 +370,90 @@ fn what_was_sent_is_the_place_of_the_next_command() -> Result<(), CodecError> {
         assert_eq!(codec.decode(&mut input)?.map(|reply| reply.to), Some(To::Command(count)));
     }
     assert_eq!(codec.sent(), 3);
+    Ok(())
+}
+
+/// No value is copied: this type can't be.
+#[derive(Debug, PartialEq)]
+struct Asked(Vec<u16>);
+
+#[tokio::test]
+async fn a_value_comes_back_with_the_final_reply() -> Result<(), CodecError> {
+    let (near, mut far) = tokio::io::duplex(1024);
+    let mut server = Framed::new(near, FtpClientCodec::with_values());
+    for line in [&b"RETR a\r\n"[..], b"NOOP\r\n", b"QUIT\r\n"] {
+        server.send((line, Asked(Vec::new()))).await?;
+    }
+    far.write_all(b"220 Hi\r\n110 MARK\r\n150 Here\r\n226 Done\r\n200 OK\r\n221 Bye\r\n421 ?\r\n")
+        .await?;
+    drop(far);
+    let (mut values, mut places) = (Vec::new(), Vec::new());
+    while let Some(taken) = server.next().await.transpose()? {
+        places.push(taken.to);
+        match server.codec_mut().reply_value() {
+            Some(ReplyValue::Preliminary(asked)) => asked.0.push(taken.reply.code()),
+            // the value of NOOP is not asked for
+            Some(ReplyValue::Final(asked)) if taken.reply.code() != 200 => values.push(asked),
+            Some(ReplyValue::Final(_)) => {}
+            None => assert!(matches!(taken.to, To::Greeting | To::Nothing)),
+        }
+        if taken.reply.code() > 199 {
+            assert!(server.codec_mut().reply_value().is_none());
+        }
+    }
+    assert_eq!(values, [Asked(vec![110, 150]), Asked(vec![])]);
+    let to = [To::Greeting, To::Command(0), To::Command(0), To::Command(0)];
+    assert_eq!(places, [&to[..], &[To::Command(1), To::Command(2), To::Nothing]].concat());
+    Ok(())
+}
+
+#[test]
+fn a_value_that_is_not_taken_is_dropped_with_the_next_reply() -> Result<(), CodecError> {
+    let (mut codec, mut sent) = (FtpClientCodec::with_values(), BytesMut::new());
+    codec.encode((Command::Noop, 1), &mut sent)?;
+    codec.encode((Command::Pwd, 2), &mut sent)?;
+    let mut input = BytesMut::from("220 Hi\r\n200 OK\r\n257 \"/\"\r\n421 ?\r\n");
+    codec.decode(&mut input)?;
+    codec.decode(&mut input)?;
+    assert!(codec.values().eq(&[2]));
+    codec.decode(&mut input)?;
+    assert_eq!(codec.reply_value(), Some(ReplyValue::Final(2)));
+    codec.decode(&mut input)?;
+    assert_eq!(codec.reply_value(), None);
+    assert_eq!(codec.into_values().len(), 0);
+    Ok(())
+}
+
+#[test]
+fn the_value_of_a_line_that_is_not_sent_is_given_back() {
+    let (mut codec, mut sent) = (FtpClientCodec::with_values(), BytesMut::new());
+    let error = codec.encode((NameLine("RETR", b"a\nDELE b"), 7), &mut sent);
+    let error = error.expect_err("two lines");
+    assert_eq!(
+        (error.to_string(), format!("{error:?}").contains('7')),
+        ("not one line".into(), false)
+    );
+    match error {
+        SinkError::Unsent(unsent) => assert_eq!((unsent.error, unsent.value), (Error::NotALine, 7)),
+        error => panic!("{error}"),
+    }
+    assert_eq!((codec.owed(), codec.values().len(), sent.len()), (0, 0, 0));
+}
+
+#[test]
+fn a_codec_keeps_the_order_of_a_proxy() -> Result<(), CodecError> {
+    let (mut server, mut sent) = (FtpClientCodec::with_values(), BytesMut::new());
+    let code = ReplyCode::COMMAND_NOT_IMPLEMENTED;
+    assert!(server.may_take_line() && server.take_line());
+    server.encode((RawLine(b"NOOP\r\n"), "a line"), &mut sent)?;
+    assert!(server.take_line());
+    assert!(!server.may_answer(code) && !server.answer(code));
+    assert!(!server.may_take_line() && !server.take_line());
+    let mut input = BytesMut::from("220 Ready\r\n200 OK\r\n");
+    while server.decode(&mut input)?.is_some() {}
+    assert!(!server.may_answer(ReplyCode::FILE_STATUS_OKAY));
+    assert!(server.may_answer(code) && server.answer(code));
+    assert!(!server.answer(code) && server.take_line());
     Ok(())
 }
 
