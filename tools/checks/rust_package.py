@@ -14,6 +14,7 @@ usage: tools/checks/rust_package.py codes              the package's codes of re
        tools/checks/rust_package.py limit SERVER       more connections than may be open
        tools/checks/rust_package.py stop SERVER        sessions that are open at a signal
        tools/checks/rust_package.py files SERVER       what a client puts, lists and gets over IPv4 and IPv6, and what it may not
+       tools/checks/rust_package.py transfer SERVER CLIENT     what this client puts, lists and gets there, and what it says of a refusal
        tools/checks/rust_package.py speed SERVER [COUNT [CONNECTIONS]]  NOOPs a second
 
 The last line says what was compared; the status is 0 where all is right.
@@ -401,6 +402,33 @@ def check_files(program):
     return f"{len(content):,} bytes at {' and '.join(hosts)}"
 
 
+def check_transfer(program, client):
+    """The client puts, lists and gets a file. It says why there is none, and sends no name of two lines."""
+    content = bytes(range(256)) * 100_000
+    hosts = [HOST] + (["::1"] if has_ipv6() else [])
+    for host in hosts:
+        with tempfile.TemporaryDirectory() as place:
+            folder, source, copy, none = (pathlib.Path(place, name) for name in ["folder", "source", "copy", "none"])
+            folder.mkdir()
+            source.write_bytes(content)
+            with StartedServer([program, folder, f"[{host}]:0" if ":" in host else f"{host}:0"]) as server:
+
+                def run(*words):
+                    run = subprocess.run([client, host, str(server.port), "anna", "secret", *words], capture_output=True, text=True, timeout=PATIENCE)
+                    return run.returncode, run.stdout, run.stderr
+
+                wants("how it puts", run("put", source, "new"), (0, "", ""))
+                wants("what is stored", (folder / "new").read_bytes(), content)
+                status, listing, _ = run("list")
+                wants("the listing", (status, [(line.split()[4], line.split()[-1]) for line in listing.splitlines()]), (0, [(str(len(content)), "new")]))
+                wants("how it gets", run("get", "new", copy), (0, "", ""))
+                wants("what it got", copy.read_bytes(), content)
+                status, _, said = run("get", "absent", none)
+                wants("a file that is absent", (status, said[:34], none.exists()), (1, "transfer: the server refuses: 550 ", False))
+                wants("a name of two lines", run("get", "a\nDELE new", none), (1, "", "transfer: not one line\n"))
+    return f"{len(content):,} bytes at {' and '.join(hosts)}"
+
+
 CHECKS = {
     "codes": check_codes,
     "public": check_public,
@@ -415,6 +443,7 @@ CHECKS = {
     "limit": check_limit,
     "stop": check_stop,
     "files": check_files,
+    "transfer": check_transfer,
     "speed": check_speed,
 }
 

@@ -8,7 +8,7 @@ use std::io::{self, Read, Write};
 use std::net::TcpStream;
 use std::process::ExitCode;
 use std::time::Duration;
-use unftp_control::{find_extended_port, Client, Command, Password, To};
+use unftp_control::{find_extended_port, Client, Command, Password, ReceivedReply, To};
 
 /// How long the server may take for anything.
 const PATIENCE: Duration = Duration::from_secs(60);
@@ -16,22 +16,16 @@ const PATIENCE: Duration = Duration::from_secs(60);
 /// The most bytes of a reply.
 const REPLY_LIMIT: usize = 16_384;
 
+/// A reply that borrows nothing.
+type Reply = ReceivedReply<'static>;
+
 type Outcome<T> = Result<T, Box<dyn Error>>;
 
-/// A reply: its code, its first line, and whether another to the same follows.
-struct Answer {
-    code: u16,
-    text: String,
-    is_preliminary: bool,
-}
-
-impl Answer {
-    /// The reply, where the first digit of its code is one of these.
-    fn wanted(self, digits: &[u16], else_say: &str) -> Outcome<Answer> {
-        if digits.contains(&(self.code / 100)) {
-            return Ok(self);
-        }
-        Err(format!("{else_say}: {} {}", self.code, self.text).into())
+/// The reply, where the first digit of its code is one of these.
+fn wanted(reply: Reply, digits: &[u16], else_say: &str) -> Outcome<Reply> {
+    match digits.contains(&(reply.code() / 100)) {
+        true => Ok(reply),
+        false => Err(format!("{else_say}: {reply}").into()),
     }
 }
 
@@ -46,32 +40,30 @@ impl Control {
     fn connect(host: &str, port: u16) -> Outcome<Control> {
         let client = Client::with_limit(REPLY_LIMIT);
         let mut control = Control { stream: connect(host, port)?, client };
-        control.final_reply()?.wanted(&[2], "no session")?;
+        wanted(control.final_reply()?, &[2], "no session")?;
         Ok(control)
     }
 
     /// The next complete reply of what was received. One that nobody asked for is an error.
-    fn received_reply(&mut self) -> Outcome<Option<Answer>> {
+    fn received_reply(&mut self) -> Outcome<Option<Reply>> {
         let Some(taken) = self.client.next_reply()? else { return Ok(None) };
-        let line = taken.reply.lines().next().unwrap_or_default();
-        let is_preliminary = taken.reply.is_preliminary();
-        let answer = Answer { code: taken.reply.code(), text: printable(line), is_preliminary };
+        let reply = taken.reply.into_owned();
         if taken.to != To::Nothing {
-            return Ok(Some(answer));
+            return Ok(Some(reply));
         }
-        let what = match answer.code {
+        let what = match reply.code() {
             421 => "the server ends the session",
             _ => "a reply to nothing",
         };
-        answer.wanted(&[], what).map(Some)
+        wanted(reply, &[], what).map(Some)
     }
 
     /// The next reply.
-    fn reply(&mut self) -> Outcome<Answer> {
+    fn reply(&mut self) -> Outcome<Reply> {
         let mut piece = [0; 4096];
         loop {
-            if let Some(answer) = self.received_reply()? {
-                return Ok(answer);
+            if let Some(reply) = self.received_reply()? {
+                return Ok(reply);
             }
             match self.stream.read(&mut piece)? {
                 0 => return Err("the server has closed the connection".into()),
@@ -81,11 +73,11 @@ impl Control {
     }
 
     /// The next final reply: those before it are preliminary.
-    fn final_reply(&mut self) -> Outcome<Answer> {
+    fn final_reply(&mut self) -> Outcome<Reply> {
         loop {
-            let answer = self.reply()?;
-            if !answer.is_preliminary {
-                return Ok(answer);
+            let reply = self.reply()?;
+            if !reply.is_preliminary() {
+                return Ok(reply);
             }
         }
     }
@@ -99,45 +91,44 @@ impl Control {
     }
 
     /// Sends a command, and returns the final reply to it.
-    fn ask(&mut self, command: &Command) -> Outcome<Answer> {
+    fn ask(&mut self, command: &Command) -> Outcome<Reply> {
         self.send(command)?;
         self.final_reply()
     }
 
     fn log_in(&mut self, name: &str, password: &str) -> Outcome<()> {
         let user = self.ask(&Command::User { username: name.into() })?;
-        if user.wanted(&[2, 3], "login failed")?.code / 100 == 3 {
+        if wanted(user, &[2, 3], "login failed")?.code() / 100 == 3 {
             let pass = self.ask(&Command::Pass { password: Password::from(password) })?;
-            pass.wanted(&[2], "login failed")?;
+            wanted(pass, &[2], "login failed")?;
         }
         Ok(())
     }
 
     /// The size of a file, where the server says it.
     fn size(&mut self, path: &str) -> Outcome<Option<u64>> {
-        let answer = self.ask(&Command::Size { file: path.into() })?;
-        Ok((answer.code == 213).then(|| answer.text.parse().ok()).flatten())
+        let reply = self.ask(&Command::Size { file: path.into() })?;
+        let text = reply.to_string();
+        Ok(text.strip_prefix("213 ").and_then(|size| size.parse().ok()))
     }
 
     /// Where the server listens for the data connection.
     fn passive_port(&mut self) -> Outcome<u16> {
-        let answer = self.ask(&Command::Epsv)?.wanted(&[2], "no passive mode")?;
-        match find_extended_port(answer.text.as_bytes()) {
-            Some(port) if port != 0 => Ok(port),
-            _ => Err(format!("no port: {} {}", answer.code, answer.text).into()),
-        }
+        let reply = wanted(self.ask(&Command::Epsv)?, &[2], "no passive mode")?;
+        let port = reply.lines().find_map(find_extended_port).filter(|port| *port != 0);
+        port.ok_or_else(|| format!("no port: {reply}").into())
     }
 
     /// Writes a file of the server to a new one.
     fn download(&mut self, host: &str, path: &str, output: &str) -> Outcome<()> {
-        self.ask(&Command::Type)?.wanted(&[2], "no binary mode")?;
+        wanted(self.ask(&Command::Type)?, &[2], "no binary mode")?;
         let size = self.size(path)?;
         let mut data = connect(host, self.passive_port()?)?;
         self.send(&Command::Retr { path: path.into() })?;
-        self.reply()?.wanted(&[1], path)?;
+        wanted(self.reply()?, &[1], path)?;
         let count = copy(&mut data, &mut File::create(output)?, size)?;
         drop(data);
-        self.final_reply()?.wanted(&[2], path)?;
+        wanted(self.final_reply()?, &[2], path)?;
         match size {
             Some(size) if count < size => {
                 Err(format!("{path}: only {count} of {size} bytes came").into())
@@ -152,12 +143,6 @@ fn connect(host: &str, port: u16) -> io::Result<TcpStream> {
     stream.set_read_timeout(Some(PATIENCE))?;
     stream.set_write_timeout(Some(PATIENCE))?;
     Ok(stream)
-}
-
-/// A server's text for a terminal, without control characters.
-fn printable(text: &[u8]) -> String {
-    let shown = |byte: &u8| if matches!(byte, b' '..=b'~') { char::from(*byte) } else { '?' };
-    text.iter().map(shown).collect()
 }
 
 /// Copies all bytes, shows how many there are so far, and returns how many there were.

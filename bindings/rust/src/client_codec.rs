@@ -29,7 +29,8 @@ use tokio_util::codec::{Decoder, Encoder};
 /// A reply that is malformed or too long is an error, since nothing says where the next one begins.
 ///
 /// The place of a command is what [`sent`](FtpClientCodec::sent) was before it: under `Framed`,
-/// `server.codec().sent()`.
+/// `server.codec().sent()`. An [`FtpClient`](crate::FtpClient) is a client over this codec that
+/// sends one command after the other, and also transfers.
 ///
 /// As there are several encoders, `flush` and `close` of a sink want the type of one, any of them:
 ///

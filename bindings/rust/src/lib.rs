@@ -46,7 +46,15 @@
 //!
 //! A [`Client`] writes the lines of commands, and says to which of them each reply is. It may keep a
 //! value of the caller's for each, which comes with the reply.
-#![cfg_attr(feature = "tokio-util", doc = "[`FtpClientCodec`] does it for tokio.")]
+#![cfg_attr(
+    feature = "tokio-util",
+    doc = "[`FtpClientCodec`] does it under `Framed`. [`FtpClient`] is a client under tokio, which \
+           logs in and transfers."
+)]
+#![cfg_attr(
+    not(feature = "tokio-util"),
+    doc = "With the feature `tokio-util`, `FtpClient` is a client under tokio."
+)]
 //! A [`ReplyDecoder`] only takes replies, and [`front_reply`] finds the first one of a slice.
 //!
 //! # A proxy
@@ -119,6 +127,8 @@ mod event;
 #[allow(unsafe_code)]
 mod ffi;
 #[cfg(feature = "tokio-util")]
+mod ftp_client;
+#[cfg(feature = "tokio-util")]
 mod line_codec;
 mod lines;
 mod log;
@@ -150,6 +160,8 @@ pub use codec::{CodecError, FtpCodec};
 pub use command::Command;
 pub use error::Error;
 pub use event::{list_path, parameter, Event, Line, Refusal};
+#[cfg(feature = "tokio-util")]
+pub use ftp_client::{Answer, ClientError, FtpClient};
 #[cfg(feature = "tokio-util")]
 pub use line_codec::{FtpLineCodec, OwnedLine};
 pub use lines::LINE_LIMIT;

@@ -1,6 +1,6 @@
 use crate::bytes::RawBytes;
 use std::borrow::Cow;
-use std::fmt::{self, Debug, Formatter};
+use std::fmt::{self, Debug, Display, Formatter, Write};
 
 const CR_LF: &[u8] = b"\r\n";
 
@@ -69,6 +69,31 @@ impl ReceivedReply<'_> {
     /// The same reply, copied where it is borrowed.
     pub fn into_owned(self) -> ReceivedReply<'static> {
         ReceivedReply { code: self.code, bytes: Cow::Owned(self.bytes.into_owned()) }
+    }
+}
+
+/// The code and the lines, with a line feed between each two, for a terminal: each control character
+/// is `?`, and what is not UTF-8 is U+FFFD.
+///
+/// ```
+/// use unftp_control::ReplyDecoder;
+///
+/// let mut decoder = ReplyDecoder::new();
+/// decoder.push(b"220-Hello\r\n\x1b[2J\r\n220 caf\xe9\r\n")?;
+/// let reply = decoder.next_reply()?.expect("it is complete");
+/// assert_eq!(reply.to_string(), "220-Hello\n?[2J\n220 caf\u{fffd}");
+/// # Ok::<(), unftp_control::Error>(())
+/// ```
+impl Display for ReceivedReply<'_> {
+    fn fmt(&self, f: &mut Formatter<'_>) -> fmt::Result {
+        let text = String::from_utf8_lossy(self.bytes.strip_suffix(CR_LF).unwrap_or(&self.bytes));
+        for (at, line) in text.split("\r\n").enumerate() {
+            if at > 0 {
+                f.write_char('\n')?;
+            }
+            f.write_str(&line.replace(char::is_control, "?"))?;
+        }
+        Ok(())
     }
 }
 
