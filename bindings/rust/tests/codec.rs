@@ -14,7 +14,7 @@ use tokio::io::{
 use tokio_util::codec::{Decoder, Encoder, Framed, FramedRead};
 use unftp_control::{
     is_clear, CodecError, Command, Error, Event, FtpClientCodec, FtpCodec, FtpLineCodec, NameLine,
-    Pending, ProxyCodec, RawLine, Refusal, Reply, ReplyCode, ReplyValue, SinkError, To,
+    OwnedLine, Pending, ProxyCodec, RawLine, Refusal, Reply, ReplyCode, ReplyValue, SinkError, To,
 };
 
 /// A reader that gives one piece after the other, and then the end or an error.
@@ -552,27 +552,49 @@ fn each_reply_of_a_server_is_passed_on_as_it_came() -> Result<(), CodecError> {
     Ok(())
 }
 
-/// Passes on what a server says, and answers each line that is not clear.
+/// Passes on what a server says, and answers each line that is not clear, once it may.
 async fn relay(
     client: impl AsyncRead + AsyncWrite + Unpin,
     server: impl AsyncRead + AsyncWrite + Unpin,
 ) -> Result<(), CodecError> {
     let mut client = Framed::new(client, ProxyCodec(FtpLineCodec::new()));
     let mut server = Framed::new(server, FtpClientCodec::new());
-    while let Some(taken) = server.next().await.transpose()? {
-        client.feed(taken.reply.into()).await?;
-        client.flush().await?;
-        while server.codec().owed() == 0 {
-            let Some(line) = client.next().await.transpose()? else { return client.close().await };
-            if is_clear(&line.bytes) {
-                server.send(line.bytes.to_vec()).await?;
-            } else {
-                let reply = Reply::new(ReplyCode::COMMAND_SYNTAX_ERROR, "Not clear");
-                client.send(reply.into()).await?;
+    let (mut waiting, mut is_open) = (None::<Reply>, true);
+    while is_open || waiting.is_some() || server.codec().owed() > 0 {
+        tokio::select! {
+            taken = server.next() => {
+                let Some(taken) = taken.transpose()? else { break };
+                client.feed(taken.reply.into()).await?;
+                client.flush().await?;
+            }
+            line = client.next(), if is_open && server.codec().may_take_line() => {
+                match line.transpose()? {
+                    Some(line) => waiting = decide(&mut server, &line).await?,
+                    None => is_open = false,
+                }
             }
         }
+        match waiting.take() {
+            Some(reply) if server.codec_mut().answer(reply.code()) => {
+                client.send(reply.into()).await?;
+            }
+            later => waiting = later,
+        }
     }
-    Ok(())
+    client.close().await
+}
+
+/// Takes the next line, and sends it, or has the answer to it.
+async fn decide(
+    server: &mut Framed<impl AsyncWrite + Unpin, FtpClientCodec>,
+    line: &OwnedLine,
+) -> Result<Option<Reply>, CodecError> {
+    assert!(server.codec_mut().take_line());
+    if !is_clear(&line.bytes) {
+        return Ok(Some(Reply::new(ReplyCode::COMMAND_SYNTAX_ERROR, "Not clear")));
+    }
+    server.send(&line.bytes[..]).await?;
+    Ok(None)
 }
 
 #[tokio::test]
