@@ -141,7 +141,7 @@ static void log_line(enum unftp_result number, const char *line, size_t line_len
     size_t len;
     uint32_t hides; /* not read: no text of the server's replies is logged */
     enum unftp_result result =
-        unftp_log_line((uint32_t)number, line, line_len, shown, sizeof shown, &len, &hides);
+        unftp_log_line(number, line, line_len, shown, sizeof shown, &len, &hides);
 
     if (result == UNFTP_DONE)
         fprintf(stderr, "relay %ld: line %.*s\n", (long)getpid(), (int)len, shown);
