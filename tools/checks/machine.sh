@@ -22,3 +22,17 @@ has_cargo() {
     wanted=$(sed -nE 's/^rust-version = "(.*)"$/\1/p' "$top/bindings/rust/Cargo.toml")
     command -v cargo >/dev/null && [ "$(printf '%s\n' "$wanted" "$(cargo --version | cut -d' ' -f2)" | sort -V | head -n 1)" = "$wanted" ]
 }
+
+# Prints the folder of the first cargo on the path that is new enough, and whose rustc has the standard library for this target.
+cargo_for() {
+    local rustc folder
+    while read -r rustc; do
+        folder=$(dirname "$rustc")
+        if [ -x "$folder/cargo" ] && PATH=$folder:$PATH has_cargo &&
+            compgen -G "$("$rustc" --print target-libdir --target "$1" 2>/dev/null)/libstd-*.rlib" >/dev/null; then
+            echo "$folder"
+            return
+        fi
+    done < <(type -aP rustc)
+    return 1
+}
