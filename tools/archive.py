@@ -1,15 +1,15 @@
 """Archives of the library and of sources: the same bytes whenever they are made of the same files."""
 
+import ast
 import gzip
 import os
+import re
 import subprocess
 import tarfile
 
 from library import TOP, place
 
 RUST = "bindings/rust"
-# what of the crate in Rust is packed: its tests need vectors/
-RUST_FILES = ["Cargo.toml", "README.md", "build.rs", "debian.toml", "generated/*.s", "src/*.rs", "examples/*.rs", "examples/replay/*.rs"]
 
 
 def said_by_git(*words):
@@ -26,9 +26,16 @@ def commit():
 
 
 def copy(folder, patterns, root):
-    """Copies the files of a folder of the repository that the patterns find, below root."""
-    for path in sorted(path for pattern in patterns for path in (TOP / folder).glob(pattern)):
+    """Copies the files of a folder of the repository that the patterns find, below root: of a folder all."""
+    found = [path for pattern in patterns for path in (TOP / folder).glob(pattern)]
+    for path in sorted({file for path in found for file in ([path] if path.is_file() else path.rglob("*")) if file.is_file()}):
         place(root / path.relative_to(TOP / folder), path.read_bytes())
+
+
+def copy_crate(root):
+    """Copies what cargo packs of the crate in Rust, below root: what its Cargo.toml includes."""
+    included = re.search(r"^include = (\[.*\])$", (TOP / RUST / "Cargo.toml").read_text(encoding="utf-8"), re.M)
+    copy(RUST, ["Cargo.toml", "README.md", *(pattern.lstrip("/") for pattern in ast.literal_eval(included[1]))], root)
 
 
 def pack(root, archive):
