@@ -3,6 +3,7 @@
 
 usage: tools/checks/rust_package.py codes              the package's codes of replies are the header's
        tools/checks/rust_package.py public [--write]   what is public of the package is what bindings/rust/public.txt lists
+       tools/checks/rust_package.py start FOLDER WORD LAST    README's commands with this word print this line, in a folder with bindings/rust
        tools/checks/rust_package.py memory PRELOAD REPLAY     the answer at each failed allocation: PRELOAD is tools/checks/c/fail_allocation.c
        tools/checks/rust_package.py version REPLAY     each call over a library of another version, 9.9.9
        tools/checks/rust_package.py arguments SERVER..      addresses, and what is no argument, of each of these servers
@@ -86,6 +87,26 @@ def check_public(*arguments):
         listed.write_text("".join(f"{item}\n" for item in items), encoding="utf-8")
     wants("public.txt", listed.read_text(encoding="utf-8").splitlines(), items)
     return f"{len(items)} public items"
+
+
+def start_commands(word):
+    """README's commands that have this word, without those that install packages. Its server listens on a port that the system chooses."""
+    blocks = re.findall(r"^```sh\n(.*?)^```$", (TOP / "README.md").read_text(encoding="utf-8"), re.M | re.S)
+    [found] = [block for block in blocks if word in block]
+    return re.sub(r"^apt-get .*\n", "", found, flags=re.M).replace("--example framed", "--example framed 0")
+
+
+def check_start(folder, word, last):
+    """The commands print this line. A server that goes on after it is ended."""
+    lines = []
+    with subprocess.Popen(["bash", "-c", start_commands(word)], cwd=folder, stdout=subprocess.PIPE, encoding="utf-8", start_new_session=True) as run:
+        try:
+            while last not in lines and (line := run.stdout.readline()):
+                lines.append(line.strip())
+        finally:
+            os.killpg(run.pid, signal.SIGTERM)
+    wants("the last line", lines[-1:], [last])
+    return f"{len(lines)} lines"
 
 
 # each calls a function of the library that takes memory
@@ -432,6 +453,7 @@ def check_transfer(program, client):
 CHECKS = {
     "codes": check_codes,
     "public": check_public,
+    "start": check_start,
     "memory": check_memory,
     "version": check_version,
     "arguments": check_arguments,
