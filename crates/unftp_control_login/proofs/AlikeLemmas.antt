@@ -1,5 +1,5 @@
 -- What is written, called and returned depends on passwords and accounts only by the answers.
-use Rattle.std.proofs.Common.{◌≡◌, ℕ, zero, suc, drop, arith, Bool, true, false, cond, ◌⊎◌, inl, inr, IsTrue, List, [], ◌∷◌, ◌++◌, Option, refl, sym, ap, subst, ◌∙◌, append_assoc}
+use Rattle.std.proofs.Common.{◌≡◌, ℕ, zero, suc, drop, arith, Bool, true, false, cond, ◌⊎◌, ⊎_elim, IsTrue, List, [], ◌∷◌, ◌++◌, Option, refl, sym, ap, subst, ◌∙◌, append_assoc}
 use Rattle.std.specs.Prelude.{if◌then◌else◌, flat_map, length, Ok, Err}
 use Rattle.std.proofs.lemmas.Bool.{false≢true}
 use Rattle.unftp_control_defs.specs.Bytes.{Bytes}
@@ -50,13 +50,9 @@ memory-alike : (limit : Option ℕ) (n : ℕ) (before lines others : List Bytes)
     → FirstMayRunOut limit (drop n lines) → FirstMayRunOut limit (drop n others)
 memory-alike limit zero before [] others same may = absurd may
 memory-alike limit zero before (line ∷ lines) [] same may = absurd same
-memory-alike limit zero before (line ∷ lines) (other ∷ others) same may = by_line same.0
-  where
-    by_line : (line ≡ other) ⊎ (GivesPassword limit line × GivesPassword limit other)
-        → (exceeds limit (length other) ≡ false) × MayTakeMemory other
-    by_line (inl is) = subst (λ line. (exceeds limit (length line) ≡ false) × MayTakeMemory line)
-        is may
-    by_line (inr both) = pass-memory limit other (exceeds limit (length other)) refl both.1
+memory-alike limit zero before (line ∷ lines) (other ∷ others) same may = ⊎_elim
+    (λ is. subst (λ line. (exceeds limit (length line) ≡ false) × MayTakeMemory line) is may)
+    (λ both. pass-memory limit other (exceeds limit (length other)) refl both.1) same.0
 memory-alike limit (suc n) before [] others same may = absurd may
 memory-alike limit (suc n) before (line ∷ lines) [] same may = absurd same
 memory-alike limit (suc n) before (line ∷ lines) (other ∷ others) same may =

@@ -1,15 +1,12 @@
 -- A gate as a session does what the gate does, and its accounts are asked what follows from the
 -- events.
-use Rattle.std.proofs.Common.{◌≡◌, ℕ, List, [], ◌∷◌, ◌++◌, map, Option, Some, None, refl, sym, ap, ◌∙◌, subst, append_assoc}
-use Rattle.std.specs.Prelude.{if◌then◌else◌, flat_map, Result, Ok, Err}
+use Rattle.std.proofs.Common.{◌≡◌, ℕ, List, [], ◌∷◌, ◌++◌, Option, refl, sym, ap, ◌∙◌, append_assoc}
+use Rattle.std.specs.Prelude.{if◌then◌else◌, flat_map}
 use Rattle.std.proofs.lemmas.List.{append-nil}
 use Rattle.unftp_control_defs.specs.Bytes.{Bytes}
 use Rattle.unftp_control_defs.specs.Events.{FtpEvent, events}
-use Rattle.unftp_control_defs.specs.FtpReply.{FtpReply, encoded}
-use Rattle.unftp_control_defs.specs.Run.{Follows, SessionLaw, after, all_replies, last_state, replies_by_event, replies_to, run_for, run_of, text_for, turn}
-use Rattle.unftp_control_message.specs.declared.reply.Reply.{Reply}
-use Rattle.unftp_control_message.specs.declared.reply.error.ControlChanError.{ControlChanError}
-use Rattle.unftp_control_serve.specs.Answering.{FirstAnswer}
+use Rattle.unftp_control_defs.specs.FtpReply.{encoded}
+use Rattle.unftp_control_defs.specs.Run.{SessionLaw, after, all_replies, last_state, replies_by_event, replies_to, run_for, run_of, text_for, turn}
 use Rattle.unftp_control_login.specs.HandlerCalls.{Call}
 use Rattle.unftp_control_login.specs.Gate.{Gated, gated_law, questions}
 use Rattle.unftp_control_login.specs.Asked.{AskedGate, IsClosed, all_questions, asked_law}
@@ -25,38 +22,6 @@ module _ {S : Type 0} (law : SessionLaw S) where
 
   abbrev having : List Call → Gated S → AskedGate S
   having asked s = record { gate = s; asked = asked }
-
-  -- one call
-  pub asked-first : {s s' : Gated S} {asked asked' : List Call} {failures failures' : ℕ}
-      {event : FtpEvent} (result : Result Reply ControlChanError)
-      → FirstAnswer gate s s' failures failures' event result
-      → asked' ≡ asked ++ questions s.stage event
-      → FirstAnswer both (having asked s) (having asked' s') failures failures' event result
-  asked-first (Ok reply) answer is = record {
-    says = answer.says;
-    next = λ i. having (is i) (answer.next i);
-    quiet = answer.quiet;
-    may_fail = tt;
-    counted = tt;
-  }
-  asked-first (Err error) answer is = record {
-    says = tt;
-    next = tt;
-    quiet = tt;
-    may_fail = answer.may_fail;
-    counted = answer.counted;
-  }
-
-  pub asked-follows : (s s' : Gated S) {asked asked' : List Call} (more : Option FtpReply)
-      → asked' ≡ asked → Follows gate s more s'
-      → Follows both (having asked s) more (having asked' s')
-  asked-follows s s' {asked} None is follows = (
-    ap (map (λ step. (step.0, having asked step.1))) follows.0,
-    λ i. having (is i) (follows.1 i),
-  )
-  asked-follows s s' {asked} (Some reply) is follows = subst
-      (λ asked'. Follows both (having asked s) (Some reply) (having asked' s')) (sym is)
-      (ap (map (λ step. (step.0, having asked step.1))) follows)
 
   -- an event
   module _ (asked : List Call) (s : Gated S) (event : FtpEvent) where

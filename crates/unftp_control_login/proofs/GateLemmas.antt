@@ -1,5 +1,5 @@
 -- What a gate leaves of an event, by what it decides.
-use Rattle.std.proofs.Common.{◌≡◌, ℕ, true, false, ◌||◌, Option, Some, None, refl, ap, ◌∙◌}
+use Rattle.std.proofs.Common.{◌≡◌, ℕ, true, false, ◌||◌, ◌++◌, Option, Some, None, refl, ap, ◌∙◌}
 use Rattle.std.specs.Prelude.{Result, Ok, Err, OnOk}
 use Rattle.std.proofs.lemmas.Bool.{cond_both}
 use Rattle.std.proofs.lemmas.Result.{on_ok_weaker}
@@ -15,8 +15,9 @@ use Rattle.unftp_control_login.specs.HandlerCalls.{CallsMade, tells}
 use Rattle.unftp_control_login.specs.CallsOf.{calls_of, failures_of}
 use Rattle.unftp_control_login.specs.Login.{Accounts}
 use Rattle.unftp_control_login.specs.LoginLimit.{is_last, too_many}
-use Rattle.unftp_control_login.specs.Gate.{Answers, Gated, LogsIn, Refuses, attempts_after, decided, decides, decision_at, gated_law, is_passed, limited, logged_in, name_needed, not_accepted, passes_on, password_in, stage_after, state_by}
-use Rattle.unftp_control_login.specs.GateState.{Decided, gated}
+use Rattle.unftp_control_login.specs.Gate.{Answers, LogsIn, Refuses, attempts_after, decided, decides, decision_at, is_passed, limited, logged_in, name_needed, not_accepted, passes_on, password_in, questions, stage_after}
+use Rattle.unftp_control_login.specs.GateState.{Decided, asked_gate, gated}
+use Rattle.unftp_control_login.specs.Asked.{AskedGate, asked_law}
 use Rattle.unftp_control_login.specs.declared.gate.Gate.{Gate}
 use Rattle.unftp_control_login.specs.declared.inner.Inner.{Inner}
 use Rattle.unftp_control_login.specs.declared.stage.LoginStep.{LoginStep}
@@ -38,7 +39,7 @@ logs-in {law = law} result same told own = record {
   calls = then-made result told (rw same at own.calls);
 }
 
--- A gate does what it decides.
+-- A gate does what it decides, and its accounts are asked what follows from the event.
 pub gate-answers : {A H S : Type 0} (accepts : A → Accounts) (state : H → S) (failures : H → ℕ)
     (law : SessionLaw S) (before after : Gate A H) (event : FtpEvent)
     (result : Result Reply ControlChanError)
@@ -51,32 +52,36 @@ pub gate-answers : {A H S : Type 0} (accepts : A → Accounts) (state : H → S)
     ≡ stage_after (accepts before.accounts.accounts) before.stage event)
     → after.quit ≡ (before.quit || is_quit event)
     → after.passed ≡ is_passed (decides (gated accepts state before) event)
-    → FirstAnswer (gated_law law) (gated accepts state before) (gated accepts state after)
+    → after.accounts.questions ≡ before.accounts.questions ++ questions before.stage event
+    → FirstAnswer (asked_law law) (asked_gate accepts state before)
+    (asked_gate accepts state after)
     (failures_of failures before.inner) (failures_of failures after.inner) event result
-gate-answers accepts state failures law before after event result does same left stage quit passed =
-    record {
+gate-answers accepts state failures law before after event (Ok reply) does same left stage quit
+    passed asked = record {
       says = does.says;
-      next = by_result result stage does.next;
-      quiet = made-quiet result does.calls;
-      may_fail = made-fails result does.calls;
-      counted = made-counted result does.calls;
+      next = λ i. record {
+        gate = record {
+          accepts = same i;
+          left = left i;
+          stage = stage i;
+          quit = quit i;
+          passed = passed i;
+          inner = does.next i;
+        };
+        asked = asked i;
+      };
+      quiet = made-quiet (Ok reply) does.calls;
+      may_fail = tt;
+      counted = tt;
     }
-  where
-    by_result : (result : Result Reply ControlChanError) → OnOk result (after.stage
-        ≡ stage_after (accepts before.accounts.accounts) before.stage event)
-        → OnOk result (state after.inner.handler ≡ state_by law (state before.inner.handler)
-        (decides (gated accepts state before) event))
-        → OnOk result (gated accepts state after
-        ≡ (gated_law law).next (gated accepts state before) event)
-    by_result (Ok reply) stage next = λ i. record {
-      accepts = same i;
-      left = left i;
-      stage = stage i;
-      quit = quit i;
-      passed = passed i;
-      inner = next i;
+gate-answers accepts state failures law before after event (Err error) does same left stage quit
+    passed asked = record {
+      says = tt;
+      next = tt;
+      quiet = tt;
+      may_fail = made-fails (Err error) does.calls;
+      counted = made-counted (Err error) does.calls;
     }
-    by_result (Err error) stage next = tt
 
 -- An answer of the gate's own is not passed on, nor is one in its place.
 refused-stays : (left : Option ℕ) (reply : FtpReply) → false ≡ is_passed (limited left (Refuses reply))
@@ -93,11 +98,12 @@ passed-at left NeedName accepts name event = refused-stays left name_needed
 passed-at left step accepts name event = refl
 
 -- the handler's replies that follow are the gate's
-pub passes-on : {S : Type 0} (law : SessionLaw S) (s : Gated S) {s' : Gated S}
-    (more : Option FtpReply) → s.passed ≡ true → s' ≡ record s { inner = s'.inner }
-    → Follows law s.inner more s'.inner → Follows (gated_law law) s more s'
+pub passes-on : {S : Type 0} (law : SessionLaw S) (s : AskedGate S) {s' : AskedGate S}
+    (more : Option FtpReply) → s.gate.passed ≡ true
+    → s' ≡ record s { gate = record s.gate { inner = s'.gate.inner } }
+    → Follows law s.gate.inner more s'.gate.inner → Follows (asked_law law) s more s'
 passes-on law s None passed kept follows = (
   rw (passed, follows.0) refl,
-  kept ∙ ap (λ inner. record s { inner = inner }) follows.1,
+  kept ∙ ap (λ inner. record s { gate = record s.gate { inner = inner } }) follows.1,
 )
 passes-on law s (Some reply) passed kept follows = rw (kept) (rw (passed, follows) refl)

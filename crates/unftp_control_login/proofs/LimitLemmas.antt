@@ -1,5 +1,5 @@
 -- How many logins fail in a run that has a limit.
-use Rattle.std.proofs.Common.{◌≡◌, ◌<◌, ◌≤◌, ◌⊎◌, inl, inr, ℕ, zero, suc, ◌+◌, ◌-◌, ◌==◌, Bool, true, false, ◌&&◌, ◌||◌, cond, List, [], ◌∷◌, ◌++◌, Some, None, refl, sym, ap, ◌∙◌, arith, append_assoc}
+use Rattle.std.proofs.Common.{◌≡◌, ◌<◌, ◌≤◌, ◌⊎◌, ⊎_elim, ℕ, zero, suc, ◌+◌, ◌-◌, ◌==◌, Bool, true, false, ◌&&◌, ◌||◌, cond, List, [], ◌∷◌, ◌++◌, Some, None, refl, sym, ap, ◌∙◌, arith, append_assoc}
 use Rattle.std.proofs.lemmas.Bool.{cond_both, false≢true, lt-leb, ne_eqb}
 use Rattle.std.proofs.lemmas.List.{append-nil}
 use Rattle.unftp_control_defs.specs.Bytes.{Bytes}
@@ -158,14 +158,14 @@ module _ {S : Type 0} (law : SessionLaw S) where
     abbrev own : Decision
     own = decided s.accepts s.stage event
 
+    refused-few : is_refusal own ≡ true → 1 < left
+    refused-few e = ⊎_elim (λ more. more)
+        (λ none. absurd (false≢true (sym none ∙ failed-refuses (unlimited s) event ∙ e))) few
+
     not-last : (refused : Bool) → is_refusal own ≡ refused
         → (refused && is_last s.left) ≡ false
     not-last false e = refl
-    not-last true e = by_few few where
-      by_few : (1 < left) ⊎ (failed (unlimited s) event ≡ false) → is_last s.left ≡ false
-      by_few (inl more) = ap is_last is ∙ lt-leb left 1 more
-      by_few (inr none) =
-          absurd (false≢true (sym none ∙ failed-refuses (unlimited s) event ∙ e))
+    not-last true e = ap is_last is ∙ lt-leb left 1 (refused-few e)
 
     same : decides s event ≡ decides (unlimited s) event
     same = ap (λ last. cond last (Refuses too_many) own) (not-last _ refl) ∙ sym (none-limited own)
@@ -178,13 +178,9 @@ module _ {S : Type 0} (law : SessionLaw S) where
         → is_used_up (cond refused (one_fewer s.left) s.left) ≡ false
     some-left some false e =
         ap is_used_up is ∙ ne_eqb left 0 (λ none. omega (arith, some, none))
-    some-left some true e = by_few few where
-      by_few : (1 < left) ⊎ (failed (unlimited s) event ≡ false)
-          → is_used_up (one_fewer s.left) ≡ false
-      by_few (inl more) = ap (λ left. is_used_up (one_fewer left)) is
-          ∙ ne_eqb (left - 1) 0 (λ none. omega (arith, more, none))
-      by_few (inr none) =
-          absurd (false≢true (sym none ∙ failed-refuses (unlimited s) event ∙ e))
+    some-left some true e = let more = refused-few e in
+        ap (λ left. is_used_up (one_fewer left)) is
+        ∙ ne_eqb (left - 1) 0 (λ none. omega (arith, more, none))
 
     none-used : (refused : Bool) → is_used_up (cond refused (one_fewer None) None) ≡ false
     none-used true = refl

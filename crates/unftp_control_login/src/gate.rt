@@ -9,7 +9,8 @@ ghost use Rattle.unftp_control_login.specs.Login.{after_answer, role_in};
 ghost use Rattle.unftp_control_login.specs.LoginLimit.{one_fewer};
 ghost use Rattle.unftp_control_login.specs.CallsOf.{failures_of};
 ghost use Rattle.unftp_control_login.specs.Asked.{AskedGate, asked_law};
-ghost use Rattle.unftp_control_login.specs.Gate.{LogsIn, Refuses, answered_stage, asked_at, attempts_after, decision_at, is_logged_in, limited, name_in, nobody, password_in, questions};
+ghost use Rattle.unftp_control_login.specs.Gate.{Answers, LogsIn, Refuses, answered_stage, asked_at, attempts_after, decision_at, is_logged_in, limited, login_needed, name_in, nobody, password_in, password_needed, questions};
+ghost use Rattle.unftp_control_login.specs.declared.stage.LoginStep.TheVariants.{AskAccounts};
 ghost use Rattle.unftp_control_login.specs.GateState.{Decided, GateAsked, GateCalled, asked_gate, gated};
 
 use crate::accounts::Accounts;
@@ -143,6 +144,68 @@ impl<A: Accounts, H: Session> Gate<A, H> {
         reply
     }
 
+    /// Keeps the name that USER gives, and asks for its password.
+    fn need_password(&mut self, alloc: Global, name: Bytes) -> Result<Reply, ControlChanError>
+        ensures handler { self.new.inner.handler ≡ self.old.inner.handler }
+        ensures decided { (heard : List H.Heard) → Decided H.state H.failures (H.law heard)
+            self.old.inner self.new.inner (Answers password_needed) result }
+        ensures stage { self.new.stage ≡ record self.old.stage { name = name } }
+        ensures kept { (self.new.accounts ≡ self.old.accounts)
+            × (self.new.limit ≡ self.old.limit) × (self.new.quit ≡ self.old.quit)
+            × (self.new.passed ≡ self.old.passed) }
+    {
+        self.stage.name = name;
+        self.inner.own_reply(
+            alloc,
+            ReplyCode::NeedPassword,
+            "User name okay, need password",
+        )
+    }
+
+    /// Asks the accounts whether the password is that of the name, which is used up. The client is
+    /// admitted where it is, and else refused.
+    fn ask_accounts(&mut self, alloc: Global, event: &Event) -> Result<Reply, ControlChanError>
+        ensures heard { Begins (H.heard self.new.inner.handler) (H.heard self.old.inner.handler) }
+        ensures decided { (heard : List H.Heard) → Begins heard (H.heard self.new.inner.handler)
+            → Decided H.state H.failures (H.law heard) self.old.inner self.new.inner
+            (limited self.old.limit.left (decision_at AskAccounts
+            (A.accepts self.old.accounts.accounts) self.old.stage.name (event_meant event.now)))
+            result }
+        ensures left { self.new.limit.left ≡ attempts_after self.old.limit.left
+            (decision_at AskAccounts (A.accepts self.old.accounts.accounts) self.old.stage.name
+            (event_meant event.now)) }
+        ensures stage { OnOk result (self.new.stage ≡ answered_stage AskAccounts
+            (A.accepts self.old.accounts.accounts) self.old.stage (event_meant event.now)) }
+        ensures nobody { OnErr result (IsTrue (is_logged_in self.new.stage.progress)
+            → IsTrue (is_logged_in self.old.stage.progress)) }
+        ensures asked { self.new.accounts.questions ≡ self.old.accounts.questions
+            ++ asked_at AskAccounts self.old.stage.name (event_meant event.now) }
+        ensures kept { (self.new.accounts.accounts ≡ self.old.accounts.accounts)
+            × (self.new.quit ≡ self.old.quit) × (self.new.passed ≡ self.old.passed) }
+    {
+        let username = mem::replace(&mut self.stage.name, Bytes::new());
+        let password = password_in(event);
+        if self.accounts.ask(username.as_slice(), password) {
+            return self.admit(alloc, username);
+        }
+        self.stage.progress = self.stage.progress.answered(false);
+        self.refuse(alloc, ReplyCode::NotLoggedIn, "Login incorrect")
+    }
+
+    /// Answers an event that needs a login, which the handler doesn't receive.
+    fn turn_away(&mut self, alloc: Global, event: Event) -> Result<Reply, ControlChanError>
+        ensures handler { self.new.inner.handler ≡ self.old.inner.handler }
+        ensures decided { (heard : List H.Heard) → Decided H.state H.failures (H.law heard)
+            self.old.inner self.new.inner (Answers login_needed) result }
+        ensures kept { (self.new.accounts ≡ self.old.accounts)
+            × (self.new.limit ≡ self.old.limit) × (self.new.stage ≡ self.old.stage)
+            × (self.new.quit ≡ self.old.quit) × (self.new.passed ≡ self.old.passed) }
+    {
+        drop(event);
+        self.inner
+            .own_reply(alloc, ReplyCode::NotLoggedIn, "Log in with USER and PASS")
+    }
+
     /// Does what a step says with its event. The progress is already that after the event.
     fn take(
         &mut self,
@@ -169,31 +232,12 @@ impl<A: Accounts, H: Session> Gate<A, H> {
     {
         match step {
             LoginStep::PassOn => self.inner.pass_on(alloc, event),
-            LoginStep::NeedPassword => {
-                self.stage.name = name_in(event);
-                self.inner.own_reply(
-                    alloc,
-                    ReplyCode::NeedPassword,
-                    "User name okay, need password",
-                )
-            }
-            LoginStep::AskAccounts => {
-                let username = mem::replace(&mut self.stage.name, Bytes::new());
-                let password = password_in(&event);
-                if self.accounts.ask(username.as_slice(), password) {
-                    return self.admit(alloc, username);
-                }
-                self.stage.progress = self.stage.progress.answered(false);
-                self.refuse(alloc, ReplyCode::NotLoggedIn, "Login incorrect")
-            }
+            LoginStep::NeedPassword => self.need_password(alloc, name_in(event)),
+            LoginStep::AskAccounts => self.ask_accounts(alloc, &event),
             LoginStep::NeedName => {
                 self.refuse(alloc, ReplyCode::BadCommandSequence, "Send USER first")
             }
-            LoginStep::NeedLogin => {
-                drop(event);
-                self.inner
-                    .own_reply(alloc, ReplyCode::NotLoggedIn, "Log in with USER and PASS")
-            }
+            LoginStep::NeedLogin => self.turn_away(alloc, event),
         }
     }
 }

@@ -1,8 +1,7 @@
 use Rattle.std.proofs.Common.{refl}
 use Rattle.std.proofs.lemmas.Result.{IfOk-weaker}
 use Rattle.unftp_control_serve.specs.EventMeaning.{further_of}
-use Rattle.unftp_control_login.specs.GateState.{gated}
-use Rattle.unftp_control_login.proofs.AskedLemmas.{asked-follows}
+use Rattle.unftp_control_login.specs.GateState.{asked_gate}
 use Rattle.unftp_control_login.proofs.CalledLemmas.{made-counted, made-fails, made-quiet}
 use Rattle.unftp_control_login.proofs.GateLemmas.{passes-on}
 use Rattle.unftp_control_login.proofs.gate.GateSession.further.Goals as goal
@@ -15,10 +14,9 @@ returns-clause-answers g c = λ w so.
     let answer = c.further.ensures.answers w so in
     let calls = returns-clause-calls g c w so in
     record {
-      follows = IfOk-weaker c.further.result _ _ (λ more follows. asked-follows (g.H.Session.law w) _ _
-          (further_of more) refl (passes-on (g.H.Session.law w)
-          (gated g.A.Accounts.accepts g.H.Session.state c.args.self.now) (further_of more)
-          c.if-not-self.false refl follows)) answer.follows;
+      follows = IfOk-weaker c.further.result _ _ (λ more follows. passes-on (g.H.Session.law w)
+          (asked_gate g.A.Accounts.accepts g.H.Session.state c.args.self.now) (further_of more)
+          c.if-not-self.false refl follows) answer.follows;
       fewer = answer.fewer;
       quiet = made-quiet _ calls;
       may_break = made-fails _ calls;
