@@ -1,10 +1,7 @@
-//! What the programs share: addresses of data connections, a stream that may turn to TLS, a listener
-//! with limits and a clean end, a log that nobody waits for, and what stands between clients and a
-//! server.
+//! What the programs share: data ports, a stream that may turn to TLS, a listener with limits and a
+//! clean end, a log that nobody waits for, and what stands between clients and a server.
 
-pub mod address;
 mod certificate;
-pub mod connection;
 pub mod identity;
 pub mod listening;
 pub mod log;

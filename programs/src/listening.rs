@@ -1,5 +1,4 @@
 //! Listeners with limits and a clean end.
-use crate::address::unmapped;
 use listenfd::ListenFd;
 use rustix::process::{getrlimit, Resource};
 use std::collections::HashMap;
@@ -15,6 +14,7 @@ use tokio::signal::unix::{signal, SignalKind};
 use tokio::sync::{watch, Semaphore};
 use tokio::task::JoinSet;
 use tokio::time::{sleep, timeout};
+use unftp_control::unmapped;
 
 /// How many connections there may be.
 #[derive(Clone, Copy, Debug)]

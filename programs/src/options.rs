@@ -2,7 +2,7 @@
 use crate::identity::Identity;
 use crate::listening::{self, Listener, Place};
 use crate::log::Format;
-use crate::ports::port_range;
+use crate::ports::{port_range, Passive};
 use crate::tls::DataSession;
 use clap::parser::ValueSource;
 use clap::{value_parser, Arg, ArgAction, ArgMatches};
@@ -20,10 +20,8 @@ const DYNAMIC_PORTS: RangeInclusive<u16> = 49152..=65535;
 pub struct Common {
     /// Where it listens.
     pub listen: Vec<Place>,
-    /// The ports of passive data connections.
-    pub passive_ports: RangeInclusive<u16>,
-    /// The address in the reply to PASV, before a translation of addresses.
-    pub public_address: Option<Ipv4Addr>,
+    /// What passive data connections have.
+    pub passive: Passive,
     /// The PEM files of the certificates and of their key.
     pub tls: Option<(PathBuf, PathBuf)>,
     /// Which TLS sessions data connections may have.
@@ -45,8 +43,10 @@ impl Common {
         let is_any = matches.get_flag("any-data-session");
         Common {
             listen: places(matches),
-            passive_ports: matches.get_one("passive-ports").cloned().unwrap_or(DYNAMIC_PORTS),
-            public_address: matches.get_one("public-address").copied(),
+            passive: Passive {
+                ports: matches.get_one("passive-ports").cloned().unwrap_or(DYNAMIC_PORTS),
+                public_address: matches.get_one("public-address").copied(),
+            },
             tls: file(matches, "certificate").zip(file(matches, "key")),
             data_session: if is_any { DataSession::Any } else { DataSession::Resumed },
             require_tls: matches.get_flag("require-tls"),

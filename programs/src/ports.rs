@@ -1,8 +1,35 @@
-//! The ports of passive data connections.
-use pbkdf2::password_hash::rand_core::{OsRng, RngCore};
-use std::io::{self, ErrorKind};
-use std::net::{SocketAddr, TcpListener};
+//! The data ports of control connections.
+use std::net::{Ipv4Addr, SocketAddr};
 use std::ops::RangeInclusive;
+use unftp_control::DataPort;
+
+/// What the options say of passive data connections.
+#[derive(Clone, Debug)]
+pub struct Passive {
+    /// Their ports.
+    pub ports: RangeInclusive<u16>,
+    /// The address in the reply to PASV, before a translation of addresses.
+    pub public_address: Option<Ipv4Addr>,
+}
+
+impl Passive {
+    /// The data port of a control connection between these addresses.
+    pub fn data_port(&self, client: SocketAddr, own: SocketAddr) -> DataPort {
+        let data_port = data_port(client, own).with_ports(self.ports.clone());
+        match self.public_address {
+            Some(address) => data_port.with_public_address(address),
+            None => data_port,
+        }
+    }
+}
+
+/// The data port of a control connection between these addresses, on any port. It logs the
+/// connections of others.
+pub fn data_port(peer: SocketAddr, own: SocketAddr) -> DataPort {
+    DataPort::new(peer, own).on_foreign_peer(|peer| {
+        tracing::warn!(%peer, "a data connection of another address was closed");
+    })
+}
 
 /// Two ports with a dash between them.
 ///
@@ -17,28 +44,6 @@ pub fn port_range(text: &str) -> Result<RangeInclusive<u16>, &'static str> {
     ports.ok_or("two ports with a dash between them")
 }
 
-/// Listens at an address for a client's data connection, on one of these ports, and no call of the
-/// listener waits. Each search begins elsewhere, so that others can't tell the next port.
-///
-/// # Errors
-///
-/// Where no port is free, or the address is not the machine's.
-pub fn listen(mut own: SocketAddr, ports: &RangeInclusive<u16>) -> io::Result<(TcpListener, u16)> {
-    let (first, last) = (*ports.start(), *ports.end());
-    let start = first + (OsRng.next_u32() % ports.len() as u32) as u16;
-    let mut listen_on = |port| {
-        own.set_port(port);
-        TcpListener::bind(own)
-    };
-    let free = (start..=last).chain(first..start).find_map(|port| match listen_on(port) {
-        Err(error) if error.kind() == ErrorKind::AddrInUse => None,
-        listening => Some(listening.map(|listener| (listener, port))),
-    });
-    let (listener, port) = free.unwrap_or_else(|| Err(ErrorKind::AddrInUse.into()))?;
-    listener.set_nonblocking(true)?;
-    Ok((listener, port))
-}
-
 #[cfg(test)]
 mod tests {
     use super::*;
@@ -50,14 +55,5 @@ mod tests {
         for text in ["0-5", "5-4", "5", "-5", "5-", "1-65536", "a-b"] {
             assert!(port_range(text).is_err(), "{text}");
         }
-    }
-
-    #[test]
-    fn ports() {
-        let own = SocketAddr::from(([127, 0, 0, 1], 0));
-        let taken = TcpListener::bind(own).and_then(|it| Ok((it.local_addr()?.port(), it)));
-        let (port, _listener) = taken.expect("a port");
-        let none_free = listen(own, &(port..=port)).expect_err("no port is free");
-        assert_eq!(none_free.kind(), ErrorKind::AddrInUse);
     }
 }

@@ -11,12 +11,11 @@ mod server;
 mod session;
 
 use crate::listening::Connected;
+use crate::ports::Passive;
 use crate::server_tls::ServerTls;
 use crate::tls::TlsAcceptors;
 use exchange::Exchange;
 use rules::Allowed;
-use std::net::Ipv4Addr;
-use std::ops::RangeInclusive;
 use std::sync::atomic::{AtomicU64, Ordering::Relaxed};
 use std::sync::Arc;
 use std::time::Duration;
@@ -38,10 +37,8 @@ pub struct Limits {
 /// What clients are told of data connections, and asked for.
 #[derive(Clone, Debug)]
 pub struct Data {
-    /// The ports of passive ones.
-    pub passive_ports: RangeInclusive<u16>,
-    /// The address in the reply to PASV, before a translation of addresses.
-    pub public_address: Option<Ipv4Addr>,
+    /// What passive ones have.
+    pub passive: Passive,
     /// Whether names, passwords and files are only taken and sent under TLS.
     pub require_tls: bool,
 }

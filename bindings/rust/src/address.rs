@@ -27,6 +27,23 @@ impl Display for AddressError {
 
 impl std::error::Error for AddressError {}
 
+/// The IPv4 address that an IPv6 address maps, as a listener on `[::]` has for a client over IPv4;
+/// any other address as it is. So the ends of two connections are compared.
+///
+/// ```
+/// use unftp_control::unmapped;
+///
+/// assert_eq!(unmapped("::ffff:192.0.2.7".parse()?), "192.0.2.7".parse::<std::net::IpAddr>()?);
+/// assert_eq!(unmapped("::1".parse()?), "::1".parse::<std::net::IpAddr>()?);
+/// # Ok::<(), std::net::AddrParseError>(())
+/// ```
+pub fn unmapped(address: IpAddr) -> IpAddr {
+    match address {
+        IpAddr::V6(mapped) => mapped.to_ipv4_mapped().map_or(address, IpAddr::V4),
+        IpAddr::V4(_) => address,
+    }
+}
+
 /// The address that a value of PORT spells, `h1,h2,h3,h4,p1,p2` (RFC 959, section 4.1.2); `None`
 /// where it spells none, which a server answers by 501. It is six numbers with commas between them,
 /// each of one to three digits and below 256, and nothing else. Leading zeros are decimal.

@@ -122,6 +122,8 @@ mod code;
 #[cfg(feature = "tokio-util")]
 mod codec;
 mod command;
+#[cfg(feature = "tokio-util")]
+mod data_port;
 mod error;
 mod event;
 #[allow(unsafe_code)]
@@ -148,7 +150,7 @@ mod version;
 pub use crate::bytes::{Password, RawBytes};
 pub use address::{
     extended, extended_port, find_extended_port, find_host_port, host_port, read_extended,
-    read_host_port, AddressError,
+    read_host_port, unmapped, AddressError,
 };
 pub use canonical::{canonical, forward, is_clear, Forwarded};
 pub use client::{Client, ClientReply, ReplyValue, SendError, To};
@@ -158,6 +160,8 @@ pub use code::{ReplyCode, UnknownCode};
 #[cfg(feature = "tokio-util")]
 pub use codec::{CodecError, FtpCodec};
 pub use command::Command;
+#[cfg(feature = "tokio-util")]
+pub use data_port::DataPort;
 pub use error::Error;
 pub use event::{list_path, parameter, Event, Line, Refusal};
 #[cfg(feature = "tokio-util")]

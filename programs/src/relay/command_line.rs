@@ -123,11 +123,7 @@ fn relay(
         allowed,
         tls,
         server_tls,
-        data: Data {
-            passive_ports: common.passive_ports.clone(),
-            public_address: common.public_address,
-            require_tls: common.require_tls,
-        },
+        data: Data { passive: common.passive.clone(), require_tls: common.require_tls },
         limits: Limits {
             line: number(matches, "line") as usize,
             idle: seconds("idle"),

@@ -1,11 +1,9 @@
 //! Data connections: one end is the client's and one the server's.
-use crate::connection::{accept, bound};
 use crate::server_tls::ToServer;
 use crate::stream::Stream;
 use crate::tls::OfConnection;
 use std::future::Future;
 use std::io::{self, ErrorKind};
-use std::net::{self, IpAddr, SocketAddr};
 use std::sync::atomic::{AtomicU64, Ordering::Relaxed};
 use std::sync::Arc;
 use std::time::Duration;
@@ -13,6 +11,7 @@ use tokio::io::{split, AsyncReadExt, AsyncWriteExt, ReadHalf, WriteHalf};
 use tokio::net::TcpStream;
 use tokio::sync::watch;
 use tokio::time::{sleep, timeout};
+use unftp_control::DataPort;
 
 /// How many bytes are read at a time.
 const PIECE: usize = 128 * 1024;
@@ -37,14 +36,10 @@ pub enum Direction {
 pub struct Route {
     /// Which end connects to the relay.
     pub direction: Direction,
-    /// Where it connects to: what [`listen`] returned.
-    pub listener: net::TcpListener,
-    /// The only address from which it may.
-    pub from: IpAddr,
-    /// The relay's own address toward the other end, with any port.
-    pub own: SocketAddr,
-    /// Where the relay connects to.
-    pub to: SocketAddr,
+    /// The relay's data port toward the client.
+    pub client: DataPort,
+    /// The one toward the server. One of both listens, and the other connects.
+    pub server: DataPort,
     /// What turns the server's end to TLS, if anything.
     pub server_tls: Option<Arc<ToServer>>,
     /// How long nothing may be sent in either direction.
@@ -117,12 +112,6 @@ impl Transfer {
 /// Waits until the progress is another.
 async fn change(progress: &mut watch::Receiver<Progress>, before: Progress) {
     while *progress.borrow_and_update() == before && progress.changed().await.is_ok() {}
-}
-
-/// Listens at an address for the server, on a port that the system picks.
-pub fn listen(mut own: SocketAddr) -> io::Result<net::TcpListener> {
-    own.set_port(0);
-    bound(own)?.listen(4)?.into_std()
 }
 
 async fn relay(
@@ -199,20 +188,19 @@ async fn dropped(mut level: watch::Receiver<ClientTls>) {
 
 /// The client's end and the server's.
 async fn connect_both(
-    route: Route,
+    mut route: Route,
     report: &watch::Sender<Progress>,
 ) -> io::Result<(TcpStream, TcpStream)> {
-    let accepted = timeout(ACCEPTING, accept(&route.listener, route.from)).await??;
-    drop(route.listener);
-    report.send_replace(Progress::Open);
-    let accepted = TcpStream::from_std(accepted)?;
-    let connected = match connect(route.own, route.to).await {
-        Ok(connected) => connected,
-        Err(error) => {
-            reset(&accepted);
-            return Err(error);
-        }
+    let (listening, connecting) = match route.direction {
+        Direction::Passive => (&mut route.client, &mut route.server),
+        Direction::Active => (&mut route.server, &mut route.client),
     };
+    let accepted = listening.open(ACCEPTING).await?;
+    report.send_replace(Progress::Open);
+    let connected = connecting.open(CONNECTING).await.map_err(|error| {
+        reset(&accepted);
+        error
+    })?;
     Ok(match route.direction {
         Direction::Passive => (accepted, connected),
         Direction::Active => (connected, accepted),
@@ -236,11 +224,6 @@ async fn protect_server(server: TcpStream, tls: Option<Arc<ToServer>>) -> io::Re
         Some(tls) => tls.turn_data(server, ACCEPTING).await,
         None => Ok(Stream::Clear(server)),
     }
-}
-
-async fn connect(mut own: SocketAddr, to: SocketAddr) -> io::Result<TcpStream> {
-    own.set_port(0);
-    timeout(CONNECTING, bound(own)?.connect(to)).await?
 }
 
 /// Lets the other end see a fault and no end of file, once this is dropped.

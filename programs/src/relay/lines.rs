@@ -1,19 +1,14 @@
 //! What is done with each line of a client.
 use super::conversation::{Addresses, Conversation, Purpose, Verdict};
-use super::data::{listen, Direction, Route, Transfer};
+use super::data::{Direction, Route, Transfer};
 use super::rules::is_option;
-use crate::address::{of_eprt, of_port};
-use crate::ports;
+use crate::ports::data_port;
 use std::io;
-use std::net::{SocketAddr, SocketAddrV4};
+use std::net::SocketAddr;
 use unftp_control::{
-    extended, forward, host_port, is_clear, parameter, AddressError, Command, Error, Event,
-    ModeParam, OwnedLine, Reply, ReplyCode as Code,
+    extended, forward, host_port, is_clear, parameter, Command, DataPort, Error, Event, ModeParam,
+    OwnedLine, Reply, ReplyCode as Code,
 };
-
-/// The first port that is no system's own. A data connection to a lower one would reach a service
-/// (RFC 2577, section 3).
-const FIRST_PORT: u16 = 1024;
 
 impl Conversation {
     /// What is done with a line.
@@ -47,12 +42,9 @@ impl Conversation {
             Command::Auth { .. } | Command::Pbsz | Command::Prot { .. } => return Verdict::Protect,
             Command::Pasv => return self.passive(),
             Command::Epsv => return self.extended_passive(sent),
-            Command::Port { addr } => return self.active(of_port(addr).map(SocketAddr::V4), false),
+            Command::Port { addr } => return self.active(false, |client| client.port(addr)),
             Command::Other { command_name, arguments } if command_name == "EPRT" => {
-                return match of_eprt(arguments) {
-                    Err(AddressError::UnknownProtocol) => self.other_protocol(),
-                    address => self.active(address.ok(), true),
-                };
+                return self.active(true, |client| client.extended_port(arguments));
             }
             // it would end TLS (RFC 4217), and the next login would be in clear text
             Command::Other { command_name, .. }
@@ -100,72 +92,62 @@ impl Conversation {
         }
     }
 
+    fn other_protocol(&self) -> Verdict {
+        let own = if self.addresses.to_client.is_ipv4() { 1 } else { 2 };
+        let text = format!("Use ({own})");
+        Verdict::Answer(Reply::new(Code::NETWORK_PROTOCOL_NOT_SUPPORTED, text))
+    }
+
     /// The reply to PASV or EPSV, where the server listens on this port.
     pub(super) fn listen_for_client(&mut self, port: u16, is_extended: bool) -> Option<Reply> {
-        let Addresses { client, to_client, server: mut to, to_server } = self.addresses;
-        to.set_port(port);
-        let data = &self.relay.data;
-        let (listener, own) = ports::listen(to_client, &data.passive_ports).ok()?;
-        let reply = match to_client {
-            _ if is_extended => Reply::extended_passive(own).ok()?,
-            SocketAddr::V4(address) => {
-                let address = data.public_address.unwrap_or(*address.ip());
-                Reply::passive(SocketAddrV4::new(address, own)).ok()?
-            }
-            SocketAddr::V6(_) => return None,
-        };
-        let route = Route {
-            direction: Direction::Passive,
-            listener,
-            from: client.ip(),
-            own: to_server,
-            to,
-            server_tls: self.to_server_tls.clone(),
-            patience: self.relay.limits.data,
-        };
+        let (mut client, mut server) = self.data_ports();
+        let reply =
+            if is_extended { client.extended_passive(b"") } else { client.passive() }.ok()?;
+        if !client.is_prepared() {
+            return None;
+        }
+        server.connect_to(port);
+        let route = self.route(Direction::Passive, client, server);
         self.transfer = Some(Transfer::start(route, self.data_tls()));
         Some(reply)
     }
 
-    fn other_protocol(&self) -> Verdict {
-        let own = if self.addresses.to_client.is_ipv4() { 1 } else { 2 };
-        let text = format!("Network protocol not supported, use ({own})");
-        Verdict::Answer(Reply::new(Code::NETWORK_PROTOCOL_NOT_SUPPORTED, text))
+    /// The relay's data ports toward the client and toward the server.
+    fn data_ports(&self) -> (DataPort, DataPort) {
+        let Addresses { client, to_client, server, to_server } = self.addresses;
+        (self.relay.data.passive.data_port(client, to_client), data_port(server, to_server))
+    }
+
+    fn route(&self, direction: Direction, client: DataPort, server: DataPort) -> Route {
+        let server_tls = self.to_server_tls.clone();
+        Route { direction, client, server, server_tls, patience: self.relay.limits.data }
     }
 
     /// PORT and EPRT: the server is sent an address of the relay. Only the client's own address is
     /// taken, so that no data goes to another machine (RFC 2577, section 3).
-    fn active(&self, to: Option<SocketAddr>, is_extended: bool) -> Verdict {
-        let Some(to) = to else {
-            return answer(Code::PARAMETER_SYNTAX_ERROR, "malformed address");
-        };
-        if to.ip() != self.addresses.client.ip() || to.port() < FIRST_PORT {
-            let code = Code::COMMAND_NOT_IMPLEMENTED_FOR_PARAMETER;
-            return answer(code, "Only ports from 1024 of your own address");
+    fn active(&self, is_extended: bool, take: impl Fn(&mut DataPort) -> Reply) -> Verdict {
+        let (mut client, server) = self.data_ports();
+        let reply = take(&mut client);
+        if reply.code() != Code::COMMAND_OKAY {
+            return Verdict::Answer(reply);
         }
-        self.listen_for_server(to.port(), is_extended)
+        self.listen_for_server(client, server, is_extended)
             .unwrap_or_else(|_| answer(Code::CANT_OPEN_DATA_CONNECTION, "No data connection"))
     }
 
     /// Sends the server an address of the relay.
-    fn listen_for_server(&self, port: u16, is_extended: bool) -> io::Result<Verdict> {
-        let mut to = self.addresses.client;
-        to.set_port(port);
-        let listener = listen(self.addresses.to_server)?;
-        let (verb, address) = match listener.local_addr()? {
+    fn listen_for_server(
+        &self,
+        client: DataPort,
+        mut server: DataPort,
+        is_extended: bool,
+    ) -> io::Result<Verdict> {
+        let (verb, address) = match server.listen()? {
             SocketAddr::V4(own) if !is_extended => ("PORT", host_port(own)),
             own => ("EPRT", extended(own)),
         };
         let line = format!("{verb} {}\r\n", address.map_err(io::Error::other)?);
-        let route = Route {
-            direction: Direction::Active,
-            listener,
-            from: self.addresses.server.ip(),
-            own: self.addresses.to_client,
-            to,
-            server_tls: self.to_server_tls.clone(),
-            patience: self.relay.limits.data,
-        };
+        let route = self.route(Direction::Active, client, server);
         Ok(Verdict::Send(line.into_bytes(), Purpose::Active(route)))
     }
 }

@@ -2,7 +2,6 @@
 use super::conversation::{Addresses, Conversation, End, MOST_PENDING};
 use super::server::{Failure, Server};
 use super::Relay;
-use crate::address::unmapped;
 use crate::listening::{Connected, Stop};
 use crate::stream::Stream;
 use crate::tls::OfConnection;
@@ -16,7 +15,7 @@ use std::task::Poll;
 use std::time::Duration;
 use tokio::io::{split, AsyncReadExt, AsyncWrite, AsyncWriteExt, ReadHalf, WriteHalf};
 use tokio::time::{sleep_until, timeout, Instant};
-use unftp_control::{Reply, ReplyCode as Code};
+use unftp_control::{unmapped, Reply, ReplyCode as Code};
 
 /// How long a TLS handshake may take.
 const HANDSHAKE: Duration = Duration::from_secs(20);

@@ -1,5 +1,4 @@
 //! The answers to commands.
-use crate::data::DataPort;
 use crate::folder::FilePath;
 use crate::line::{list_path, parameter, with_nul};
 use crate::listing::{Fact, Form};
@@ -10,6 +9,7 @@ use crate::server::Checked;
 use crate::session::Session;
 use crate::transfer::Work;
 use std::borrow::Cow;
+use std::io;
 use std::time::Duration;
 use unftp_control::{
     quoted_path, AuthParam, Command, Event, LoginStep, ModeParam, Opt, OwnedLine, ProtParam,
@@ -51,6 +51,14 @@ pub fn directory(path: &FilePath) -> Answered {
 /// The reply to what can't be done.
 pub fn refuse(code: Code, text: &'static str) -> Answered {
     Err(Reply::new(code, text))
+}
+
+/// The answer to PASV or EPSV.
+fn listening(answered: io::Result<Reply>) -> Answered {
+    answered.map(Answer::Reply).map_err(|error| {
+        tracing::warn!(%error, "no data connection can be listened for");
+        Reply::new(Code::CANT_OPEN_DATA_CONNECTION, "No port is free")
+    })
 }
 
 /// The verbs that are answered, for HELP.
@@ -102,7 +110,8 @@ impl Session {
             LoginStep::PassOn => return None,
             LoginStep::Answer(reply) => return Some(Answer::Reply(reply)),
             LoginStep::AskAccounts { name, password } => {
-                let checked = self.server.check(name, password.as_bytes(), self.ends.client);
+                let client = self.data_port.client();
+                let checked = self.server.check(name, password.as_bytes(), client);
                 (name.to_vec(), checked.await)
             }
         };
@@ -159,9 +168,9 @@ impl Session {
             Command::Mode { .. } | Command::Stru { .. } => {
                 refuse(Code::COMMAND_NOT_IMPLEMENTED_FOR_PARAMETER, "Only MODE S and STRU F")
             }
-            Command::Pasv => self.passive(),
-            Command::Epsv => self.extended_passive(&parameter(line)?),
-            Command::Port { addr } => self.port(addr),
+            Command::Pasv => listening(self.data_port.passive()),
+            Command::Epsv => listening(self.data_port.extended_passive(&parameter(line)?)),
+            Command::Port { addr } => Ok(Answer::Reply(self.data_port.port(addr))),
             Command::Rest { offset } => self.restart(*offset),
             Command::Pwd => directory(&self.directory),
             Command::Cdup => self.change_directory(b"..").await,
@@ -206,7 +215,7 @@ impl Session {
     /// The answer to a verb of which the layer has no command.
     async fn other_command(&mut self, verb: &str, words: &str, line: &OwnedLine) -> Answered {
         match verb {
-            "EPRT" => self.extended_port(words),
+            "EPRT" => Ok(Answer::Reply(self.data_port.extended_port(words))),
             "MFMT" => self.set_modified(line).await,
             "REIN" if words.is_empty() => self.reinitialize(),
             "XCUP" => self.change_directory(b"..").await,
@@ -270,7 +279,7 @@ impl Session {
 
     /// ABOR after a transfer, or without one.
     fn abort(&mut self) -> Answered {
-        self.data_port = DataPort::Unset;
+        self.data_port.close();
         reply(Code::CLOSING_DATA_CONNECTION, "No transfer is under way")
     }
 

@@ -1,82 +1,17 @@
-//! Data connections: a client names where it listens, or the server listens for it.
+//! Open data connections, in clear text and under TLS.
 use rustix::io::ioctl_fionread;
 use std::io::{self, ErrorKind, Read, Write};
-use std::net::{self, IpAddr, Shutdown, SocketAddr};
+use std::net::{self, Shutdown};
 use std::sync::atomic::{AtomicBool, Ordering};
 use std::sync::Arc;
 use std::time::Duration;
 use tokio::net::TcpStream;
 use tokio::time::timeout;
 use tokio_rustls::rustls::{self, ServerConnection};
-use unftp_control_programs::address::unmapped;
-use unftp_control_programs::connection::{accept, bound};
 use unftp_control_programs::tls::OfConnection;
 
 /// How many bytes of a client are dropped that it sends where it is to read.
 const UNREAD: u64 = 1 << 20;
-
-/// The ends of a control connection. Those of its data connections have the same addresses.
-#[derive(Clone, Copy, Debug)]
-pub struct Ends {
-    /// That of the client.
-    pub client: IpAddr,
-    /// That of the server.
-    pub server: IpAddr,
-    /// The interface, where the addresses are link-local ones of IPv6.
-    scope: u32,
-}
-
-impl Ends {
-    /// Those of a control connection.
-    pub fn new(client: SocketAddr, server: SocketAddr) -> Ends {
-        let scope = match server {
-            SocketAddr::V4(_) => 0,
-            SocketAddr::V6(server) => server.scope_id(),
-        };
-        Ends { client: unmapped(client.ip()), server: unmapped(server.ip()), scope }
-    }
-
-    /// Where the server listens for data connections, with any port.
-    pub fn listening(self) -> SocketAddr {
-        self.at(self.server, 0)
-    }
-
-    /// A port of one of the addresses.
-    fn at(self, address: IpAddr, port: u16) -> SocketAddr {
-        let mut address = SocketAddr::new(address, port);
-        if let SocketAddr::V6(address) = &mut address {
-            address.set_scope_id(self.scope);
-        }
-        address
-    }
-}
-
-/// Where the next data connection comes from.
-#[derive(Default)]
-pub enum DataPort {
-    /// No command has said.
-    #[default]
-    Unset,
-    /// The server listens: after PASV or EPSV.
-    Passive(net::TcpListener),
-    /// The client listens: after PORT or EPRT.
-    Active(SocketAddr),
-}
-
-impl DataPort {
-    /// Opens the data connection, none of whose calls waits. One that another address opens is
-    /// closed, and the client's own is waited for.
-    pub async fn open(self, ends: Ends) -> io::Result<net::TcpStream> {
-        match self {
-            DataPort::Unset => Err(ErrorKind::NotConnected.into()),
-            DataPort::Passive(listener) => accept(&listener, ends.client).await,
-            DataPort::Active(address) => {
-                let to = ends.at(address.ip(), address.port());
-                bound(ends.at(ends.server, 0))?.connect(to).await?.into_std()
-            }
-        }
-    }
-}
 
 /// An open data connection.
 pub struct DataStream {

@@ -1,6 +1,5 @@
 //! The commands that name a file or a directory.
 use crate::commands::{directory, refuse, reply, Answer, Answered};
-use crate::data::DataPort;
 use crate::folder::{is_type, FilePath, Folder, New};
 use crate::line::{first_word, parameter, subcommand_parameter, with_nul};
 use crate::listing::{fact_list, parsed_time, time_value, Form, Listing};
@@ -44,7 +43,7 @@ impl Session {
             let text = "Data connections are under TLS only: use PROT P";
             return Err(Reply::new(Code::ADDRESS_FAMILY_NOT_SUPPORTED, text));
         }
-        if matches!(self.data_port, DataPort::Unset) {
+        if !self.data_port.is_prepared() {
             let text = "PASV, EPSV, PORT or EPRT comes first";
             return Err(Reply::new(Code::CANT_OPEN_DATA_CONNECTION, text));
         }

@@ -24,7 +24,6 @@ mod folder;
 mod guesses;
 mod line;
 mod listing;
-mod ports;
 mod record;
 mod replies;
 mod representation;

@@ -1,7 +1,6 @@
 //! A session: a client's lines are answered in turn, and beside a transfer only ABOR and STAT are.
 use crate::commands::{refuse, reply, Answer, Answered};
 use crate::control::Control;
-use crate::data::{DataPort, Ends};
 use crate::folder::{FilePath, Folder};
 use crate::listing::Fact;
 use crate::record::{self, Action, Outcome};
@@ -13,8 +12,9 @@ use std::sync::Arc;
 use std::time::Duration;
 use tokio::time::{timeout, timeout_at, Instant};
 use tracing::{info_span, Instrument, Level};
-use unftp_control::{CodecError, Command, Event, Login, OwnedLine, Reply, ReplyCode as Code};
-use unftp_control_programs::address::unmapped;
+use unftp_control::{
+    unmapped, CodecError, Command, DataPort, Event, Login, OwnedLine, Reply, ReplyCode as Code,
+};
 use unftp_control_programs::listening::{Connected, Stop};
 use unftp_control_programs::stream::Stream;
 use unftp_control_programs::tls::OfConnection;
@@ -34,8 +34,6 @@ const LINGER: Duration = Duration::from_secs(5);
 pub struct Session {
     /// What it shares with the others.
     pub server: Arc<Server>,
-    /// The addresses of the client and of the server.
-    pub ends: Ends,
     /// Which events may be answered.
     pub login: Login,
     /// What the user may do, once one has logged in.
@@ -50,10 +48,8 @@ pub struct Session {
     pub offset: u64,
     /// What is renamed, where the last command was RNFR.
     pub renamed: Option<FilePath>,
-    /// Where the next data connection comes from.
+    /// What prepares the next data connection.
     pub data_port: DataPort,
-    /// Whether only EPSV opens data connections, after EPSV ALL.
-    pub only_epsv: bool,
     /// Whether PBSZ came, without which there is no PROT.
     pub has_pbsz: bool,
     /// Whether data connections are under TLS.
@@ -109,9 +105,9 @@ pub async fn serve(server: Arc<Server>, connected: Connected) {
 
 async fn talk(server: Arc<Server>, connected: Connected) -> io::Result<()> {
     let Connected { tcp, peer, is_implicit, is_refused, stop } = connected;
-    let ends = Ends::new(peer, tcp.local_addr()?);
+    let data_port = server.settings.common.passive.data_port(peer, tcp.local_addr()?);
     let control = Control::new(Stream::control(tcp)?, server.settings.stall);
-    let mut session = Session::new(server, ends, stop);
+    let mut session = Session::new(server, data_port, stop);
     let mut control = match is_implicit {
         true => session.begin_privately(control).await?,
         false => control,
@@ -150,11 +146,10 @@ async fn unavailable(mut control: Control, text: &'static str) -> io::Result<()>
 }
 
 impl Session {
-    fn new(server: Arc<Server>, ends: Ends, stop: Stop) -> Session {
+    fn new(server: Arc<Server>, data_port: DataPort, stop: Stop) -> Session {
         let folder = server.folder.clone();
         Session {
             server,
-            ends,
             login: Login::new(),
             rights: Rights::Read,
             folder,
@@ -162,8 +157,7 @@ impl Session {
             representation: Representation::default(),
             offset: 0,
             renamed: None,
-            data_port: DataPort::Unset,
-            only_epsv: false,
+            data_port,
             has_pbsz: false,
             is_private: false,
             is_tls: false,
@@ -179,7 +173,7 @@ impl Session {
     /// Turns the control connection to TLS.
     async fn turn_to_tls(&mut self, control: Control) -> io::Result<Control> {
         let tls = self.server.tls.as_ref().ok_or(io::ErrorKind::Unsupported)?;
-        let tls = tls.of_connection(self.ends.client);
+        let tls = tls.of_connection(self.data_port.client());
         let turned = control.accept_tls(&tls.control).await;
         let control = turned.map_err(|error| {
             record::failed_handshake(&error);
@@ -281,7 +275,7 @@ impl Session {
         self.login = Login::new();
         self.deadline = Instant::now() + LOGIN_TIME;
         self.facts = Fact::ALL.to_vec();
-        self.only_epsv = false;
+        self.data_port.reset();
         let nobody = Account { rights: Rights::Read, folder: None };
         self.begin(nobody);
         reply(Code::SERVICE_READY, "Ready")
@@ -310,7 +304,7 @@ impl Session {
         self.directory = FilePath::default();
         self.representation = Representation::default();
         self.offset = 0;
-        self.data_port = DataPort::Unset;
+        self.data_port.close();
     }
 }
 

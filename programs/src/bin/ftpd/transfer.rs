@@ -1,5 +1,5 @@
 //! What is sent and received over a data connection.
-use crate::data::{DataPort, DataStream, Ends};
+use crate::data::DataStream;
 use crate::folder::FilePath;
 use crate::listing::Listing;
 use crate::replies;
@@ -9,14 +9,15 @@ use rustix::fs::{sendfile, Stat};
 use rustix::io::{preadv2, Errno, ReadWriteFlags};
 use std::fmt::{self, Display, Formatter};
 use std::fs::File;
+use std::future::Future;
 use std::io::{self, ErrorKind, IoSliceMut, Read, Seek, SeekFrom, Write};
 use std::mem;
+use std::net::TcpStream;
 use std::sync::atomic::{AtomicU64, Ordering};
 use std::sync::Arc;
 use std::time::{Duration, Instant};
 use tokio::sync::Notify;
 use tokio::task::spawn_blocking;
-use tokio::time::timeout;
 use unftp_control::{Reply, ReplyCode as Code};
 use unftp_control_programs::tls::OfConnection;
 
@@ -104,13 +105,9 @@ impl Display for Fault {
 
 /// A transfer.
 pub struct Transfer {
-    /// The data connection.
-    pub port: DataPort,
-    /// The addresses of its ends.
-    pub ends: Ends,
-    /// What turns it to TLS, where it is to be private.
+    /// What turns the data connection to TLS, where it is to be private.
     pub tls: Option<Arc<OfConnection>>,
-    /// How long it may take to open, and may then stand still.
+    /// How long TLS may take to begin, and the transfer may then stand still.
     pub stall: Duration,
     /// How many bytes were sent or received.
     pub count: Arc<AtomicU64>,
@@ -120,9 +117,14 @@ impl Transfer {
     /// Opens the data connection, does the work, and closes it. Where that is not done at once, a
     /// thread of its own waits for the client and for the disk. It ends with the connection, which
     /// is lost where this is dropped, or told to abort.
-    pub async fn run(mut self, work: Work, abort: &Notify) -> Result<(), Fault> {
+    pub async fn run(
+        self,
+        opening: impl Future<Output = io::Result<TcpStream>>,
+        work: Work,
+        abort: &Notify,
+    ) -> Result<(), Fault> {
         let opened = tokio::select! {
-            opened = self.open() => opened,
+            opened = self.open(opening) => opened,
             () = abort.notified() => {
                 Err(Fault::NoConnection(ErrorKind::ConnectionAborted.into()))
             }
@@ -150,10 +152,11 @@ impl Transfer {
         done.unwrap_or_else(|error| Err(Fault::File(error.into())))
     }
 
-    async fn open(&mut self) -> Result<DataStream, Fault> {
-        let port = mem::take(&mut self.port);
-        let opened = timeout(self.stall, port.open(self.ends)).await;
-        let tcp = opened.unwrap_or_else(|late| Err(late.into())).map_err(Fault::NoConnection)?;
+    async fn open(
+        &self,
+        opening: impl Future<Output = io::Result<TcpStream>>,
+    ) -> Result<DataStream, Fault> {
+        let tcp = opening.await.map_err(Fault::NoConnection)?;
         let Some(tls) = &self.tls else { return Ok(DataStream::clear(tcp)) };
         DataStream::accept_tls(tcp, tls, self.stall).await.map_err(Fault::Handshake)
     }

@@ -5,7 +5,6 @@ use crate::session::{log, End, Session};
 use crate::transfer::{Fault, Transfer, Work};
 use crate::GRACE;
 use std::future::Future;
-use std::mem;
 use std::pin::pin;
 use std::sync::atomic::{AtomicU64, Ordering};
 use std::sync::Arc;
@@ -88,7 +87,8 @@ impl Session {
     ) -> Result<Ended, End> {
         control.flush().await?;
         let abort = Notify::new();
-        let mut running = pin!(self.next_transfer(count.clone()).run(work, &abort));
+        let opening = self.data_port.open_std(self.server.settings.stall);
+        let mut running = pin!(self.next_transfer(count.clone()).run(opening, work, &abort));
         let mut stopping = pin!(stopping(self.stop.clone()));
         loop {
             tokio::select! {
@@ -119,11 +119,9 @@ impl Session {
         }
     }
 
-    /// The transfer over the data connection that the last command has prepared.
-    fn next_transfer(&mut self, count: Arc<AtomicU64>) -> Transfer {
+    /// The next transfer.
+    fn next_transfer(&self, count: Arc<AtomicU64>) -> Transfer {
         Transfer {
-            port: mem::take(&mut self.data_port),
-            ends: self.ends,
             tls: self.data_tls.clone().filter(|_| self.is_private),
             stall: self.server.settings.stall,
             count,
