@@ -14,8 +14,9 @@ usage: tools/checks/rust_package.py codes              the package's codes of re
        tools/checks/rust_package.py idle SERVER        clients that send too little
        tools/checks/rust_package.py limit SERVER       more connections than may be open
        tools/checks/rust_package.py stop SERVER        sessions that are open at a signal
-       tools/checks/rust_package.py files SERVER       what a client puts, lists and gets over IPv4 and IPv6, and what it may not
+       tools/checks/rust_package.py files SERVER       what clients put, list and get over IPv4 and IPv6, and what they may not
        tools/checks/rust_package.py transfer SERVER CLIENT     what this client puts, lists and gets there, and what it says of a refusal
+       tools/checks/rust_package.py proxy PROXY SERVER     what clients get through the proxy of the server of files, and what they may not
        tools/checks/rust_package.py speed SERVER [COUNT [CONNECTIONS]]  NOOPs a second
 
 The last line says what was compared; the status is 0 where all is right.
@@ -27,6 +28,7 @@ import os
 import pathlib
 import re
 import select
+import shutil
 import signal
 import socket
 import subprocess
@@ -393,34 +395,96 @@ def refused_code(client, line):
         return str(error)[:3]
 
 
+NAMES = ["new", "caf\udce9"]  # the second is one in Latin-1
+
+
+def wants_transfers(host, port, folder, content):
+    """What ftplib puts, lists and gets. Names are read as their bytes."""
+    with ftplib.FTP(timeout=PATIENCE, encoding="latin-1") as client:
+        client.connect(host, port)
+        wants("the code of PWD without a login", refused_code(client, "PWD"), "530")
+        wants("the code of another password", refused_code(client, "USER anna") + refused_code(client, "PASS x"), "331, no refusal530")
+        client.login("anna", "secret")
+        for name in NAMES:
+            sent = os.fsencode(name).decode("latin-1")
+            client.storbinary(f"STOR {sent}", io.BytesIO(content))
+            wants(f"what is stored as {name!r}", (folder / name).read_bytes(), content)
+            received = []
+            client.retrbinary(f"RETR /{sent}", received.append)
+            wants("what is read", b"".join(received), content)
+        lines = []
+        client.retrlines("LIST", lines.append)
+        sizes = sorted((line.split()[4], line.split()[-1]) for line in lines)
+        wants("the listing", sizes, sorted((str(len(content)), os.fsencode(name).decode("latin-1")) for name in NAMES))
+        for line in ["RETR ../outside", "RETR /../outside", "STOR ../outside", "RETR below/x", "RETR ..", "RETR absent"]:
+            wants(f"the code of {line}", refused_code(client, line), "550")
+        wants("the code of RETR without a data connection", refused_code(client, "RETR new"), "425")
+        if host != HOST:
+            wants("the code of PASV", refused_code(client, "PASV"), "425")
+        client.set_pasv(False)
+        wants("the names, in active mode", len(client.nlst()), len(NAMES))
+        wants("the code of an address of another", refused_code(client, "PORT 192,0,2,7,4,1"), "504")
+        wants("the code of QUIT", client.quit()[:3], "221")
+
+
+def wants_downloads(port, folder, content):
+    """What curl and lftp list and get, by EPSV and by PASV. Those that are not installed are left out: how many are not."""
+    clients = {
+        "curl": ["curl", "-q", "-sS", "-u", "anna:secret", f"ftp://{HOST}:{port}/new"],
+        "curl by PASV": ["curl", "-q", "-sS", "--disable-epsv", "-u", "anna:secret", f"ftp://{HOST}:{port}/new"],
+        "lftp": ["lftp", "--norc", "-c", f"set ftp:ssl-allow no; open -u anna,secret -p {port} {HOST}; ls; cat new"],
+    }
+    found = [name for name, words in clients.items() if shutil.which(words[0])]
+    for name in found:
+        run = subprocess.run(clients[name], capture_output=True, timeout=PATIENCE)
+        wants(f"whether {name} has the file", (run.returncode, run.stdout.endswith(content)), (0, True))
+    return found
+
+
 def check_files(program):
-    """Files are put, listed and read by PASV and by EPSV. A name of another folder is refused, and so is a transfer without a data connection."""
+    """Files are put, listed and read. A name of another folder is refused, and so is a transfer without a data connection."""
     content = bytes(range(256)) * 5000
+    run = subprocess.run([program, "/absent"], capture_output=True, text=True, timeout=PATIENCE)
+    wants("a folder that is not there", (run.returncode, run.stderr[:16]), (1, "files: /absent: "))
     hosts = [HOST] + (["::1"] if has_ipv6() else [])
     for host in hosts:
-        with tempfile.TemporaryDirectory() as place:
+        with tempfile.TemporaryDirectory() as place, tempfile.TemporaryFile() as log:
             folder, outside = pathlib.Path(place, "folder"), pathlib.Path(place, "outside")
             (folder / "below").mkdir(parents=True)
             outside.write_bytes(b"outside")
-            with StartedServer([program, folder, f"[{host}]:0" if ":" in host else f"{host}:0"]) as server, ftplib.FTP(timeout=PATIENCE) as client:
-                client.connect(host, server.port)
-                client.login()
-                client.storbinary("STOR new", io.BytesIO(content))
-                wants("what is stored", (folder / "new").read_bytes(), content)
-                lines, received = [], []
-                client.retrlines("LIST", lines.append)
-                wants("the listing", [(line.split()[4], line.split()[-1]) for line in lines], [(str(len(content)), "new")])
-                wants("the names", client.nlst(), ["new"])
-                client.retrbinary("RETR /new", received.append)
+            with StartedServer([program, folder, f"[{host}]:0" if ":" in host else f"{host}:0"], log) as server:
+                wants_transfers(host, server.port, folder, content)
+                found = wants_downloads(server.port, folder, content) if host == HOST else found
+            wants("what is outside", outside.read_bytes(), b"outside")
+            log.seek(0)
+            lines = log.read().splitlines()
+            wants("what is logged of a password", f"{host}: PASS ***".encode() in lines and b"secret" not in b"".join(lines), True)
+    return f"{len(content):,} bytes at {' and '.join(hosts)}, with {', '.join(['ftplib', *found])}"
+
+
+def check_proxy(program, server):
+    """Clients get files through the proxy. What would change one is refused, and the answer waits for the replies before it."""
+    content = bytes(range(256)) * 5000
+    with tempfile.TemporaryDirectory() as place, tempfile.TemporaryFile() as log:
+        folder = pathlib.Path(place)
+        (folder / "new").write_bytes(content)
+        with StartedServer([server, folder, f"{HOST}:0"], log) as behind, StartedServer([program, f"{HOST}:{behind.port}", f"{HOST}:0"]) as proxy:
+            found = wants_downloads(proxy.port, folder, content)
+            with ftplib.FTP(timeout=PATIENCE) as client:
+                client.connect(HOST, proxy.port)
+                client.login("anna", "secret")
+                received = []
+                client.retrbinary("RETR new", received.append)
                 wants("what is read", b"".join(received), content)
-                for line in ["RETR ../outside", "RETR /../outside", "STOR ../outside", "RETR below/x", "RETR ..", "RETR absent", "RETR new"]:
-                    wants(f"the code of {line}", refused_code(client, line), "550")
-                wants("what is outside", outside.read_bytes(), b"outside")
-                if host != HOST:
-                    wants("the code of PASV", refused_code(client, "PASV"), "425")
-                wants("the code of EPSV", client.sendcmd("EPSV")[:3], "229")
+                for line in ["DELE new", "STOR new", "PORT 127,0,0,1,8,1"]:
+                    wants(f"the code of {line}", refused_code(client, line), "502")
+                wants("the code of EPSV 2", refused_code(client, "EPSV 2"), "522")
                 wants("the code of QUIT", client.quit()[:3], "221")
-    return f"{len(content):,} bytes at {' and '.join(hosts)}"
+            with proxy.connect() as connection:
+                connection.sendall(b"DELE new\r\nNOOP\r\nTYPE A\rDELE new\r\nUSER anna\r\nQUIT\r\n")
+                codes = [line[:3] for line in receive(connection).splitlines()]
+            wants("the order of replies", codes, [b"220", b"502", b"200", b"501", b"331", b"221"])
+    return f"{len(content):,} bytes, with {', '.join(['ftplib', *found])}"
 
 
 def check_transfer(program, client):
@@ -466,6 +530,7 @@ CHECKS = {
     "stop": check_stop,
     "files": check_files,
     "transfer": check_transfer,
+    "proxy": check_proxy,
     "speed": check_speed,
 }
 

@@ -1,36 +1,51 @@
-//! A server that transfers files: `files [FOLDER [ADDRESS:PORT]]`. Anybody may list, read and write
-//! the files of a folder, of which none is in a folder below it. It follows links, and answers a
-//! transfer before it reads the next line, so that ABOR comes too late. It prints its port as one
-//! line. `ftpd`, in `programs` of the repository, has users, TLS and limits too.
+//! A server that transfers files: `files [FOLDER [ADDRESS:PORT]]`. Who logs in by `ACCOUNT` may list,
+//! read and write the files of a folder, of which none is in a folder below it. Names are the bytes
+//! that a client sends. It follows links, and answers a transfer before it reads the next line, so
+//! that ABOR comes too late. It prints its port as one line, and logs each line of a client. `ftpd`,
+//! in `programs` of the repository, has users, TLS and limits too.
 use futures_util::{SinkExt, StreamExt};
-use std::path::{Path, PathBuf};
-use std::{env, error::Error, io, io::ErrorKind, net::SocketAddr, sync::Arc, time::Duration};
-use tokio::io::{copy, AsyncWriteExt};
+use std::{env, ffi::OsStr, io, os::unix::ffi::OsStrExt, path::PathBuf, process, time::Duration};
+use tokio::io::{copy, AsyncRead, AsyncWriteExt};
 use tokio::net::{TcpListener, TcpStream};
-use tokio::{fs, fs::File, time::sleep, time::timeout};
+use tokio::{fs, fs::File, time::sleep};
 use tokio_util::codec::Framed;
-use unftp_control::{Command, Event, FtpCodec, Reply, ReplyCode as Code};
+use unftp_control::{
+    CodecError, Command, DataPort, Event, FtpLineCodec, Login, LoginStep, OwnedLine, Reply,
+    ReplyCode as Code,
+};
 
+/// The name and the password that it takes.
+const ACCOUNT: (&[u8], &[u8]) = (b"anna", b"secret");
 /// How long a client may take to open a data connection.
 const OPENING: Duration = Duration::from_secs(30);
 
 struct Session {
-    folder: Arc<Path>,
-    control: Framed<TcpStream, FtpCodec>,
-    /// What listens for the next data connection.
-    data: Option<TcpListener>,
+    folder: PathBuf,
+    control: Framed<TcpStream, FtpLineCodec>,
+    login: Login,
+    data_port: DataPort,
 }
 
 impl Session {
+    fn new(folder: &str, control: TcpStream) -> io::Result<Session> {
+        let data_port = DataPort::new(control.peer_addr()?, control.local_addr()?);
+        let control = Framed::new(control, FtpLineCodec::new());
+        Ok(Session { folder: folder.into(), control, login: Login::new(), data_port })
+    }
+
     /// Answers lines up to QUIT, or the client's end.
-    async fn serve(mut self) -> Result<(), Box<dyn Error + Send + Sync>> {
+    async fn serve(mut self) -> Result<(), CodecError> {
         self.control.send(Reply::new(Code::SERVICE_READY, "Ready")).await?;
-        while let Some(event) = self.control.next().await {
-            let reply = match event? {
-                Event::Refused(why) => Reply::new(Code::COMMAND_SYNTAX_ERROR, why.to_string()),
-                Event::Command(command) => self.answer(command).await.unwrap_or_else(|error| {
-                    Reply::new(Code::FILE_ERROR, format!("It failed: {}", error.kind()))
-                }),
+        while let Some(line) = self.control.next().await {
+            let line = line?;
+            eprintln!("{}: {}", self.data_port.client(), line.log_line()?);
+            let reply = match self.login.event(&line.event) {
+                LoginStep::Answer(reply) => reply,
+                LoginStep::AskAccounts { name, password } => {
+                    let accepted = (name, password.as_bytes()) == ACCOUNT;
+                    self.login.answer(accepted)
+                }
+                LoginStep::PassOn => self.answer(&line).await.unwrap_or_else(|refusal| refusal),
             };
             let quits = reply.code() == Code::CLOSING_CONTROL_CONNECTION;
             self.control.send(reply).await?;
@@ -41,108 +56,114 @@ impl Session {
         Ok(())
     }
 
-    /// The final reply to a command.
-    async fn answer(&mut self, command: Command<'_>) -> io::Result<Reply> {
-        let (code, text) = match command {
-            Command::User { .. } => (Code::NEED_PASSWORD, "Any password"),
-            Command::Pass { .. } => (Code::USER_LOGGED_IN, "Logged in"),
-            Command::Type | Command::Noop => (Code::COMMAND_OKAY, "OK"),
-            Command::Pwd => (Code::DIR_CREATED, "\"/\" is the directory"),
-            Command::Quit => (Code::CLOSING_CONTROL_CONNECTION, "Bye"),
-            Command::Pasv | Command::Epsv => return self.listen(command == Command::Pasv).await,
-            Command::Retr { path } => {
-                let mut file = File::open(self.path(&path)?).await?;
-                let mut data = self.open_data().await?;
-                copy(&mut file, &mut data).await?;
-                data.shutdown().await?;
-                (Code::CLOSING_DATA_CONNECTION, "Sent")
-            }
-            Command::Stor { path } => {
-                let path = self.path(&path)?;
-                let mut data = self.open_data().await?;
-                let mut file = File::create(path).await?;
-                copy(&mut data, &mut file).await?;
-                file.flush().await?;
-                (Code::CLOSING_DATA_CONNECTION, "Stored")
-            }
-            Command::List { .. } | Command::Nlst { .. } => {
-                let names = self.names(matches!(command, Command::List { .. })).await?;
-                let mut data = self.open_data().await?;
-                data.write_all(names.as_bytes()).await?;
-                data.shutdown().await?;
-                (Code::CLOSING_DATA_CONNECTION, "Listed")
-            }
-            _ => (Code::COMMAND_NOT_IMPLEMENTED, "Not implemented"),
+    /// The final reply to a line, or the one to what can't be done.
+    async fn answer(&mut self, line: &OwnedLine) -> Result<Reply, Reply> {
+        if let Some(reply) = self.data_port.answer(line) {
+            return Ok(reply);
+        }
+        let (code, text) = match &line.event {
+            Event::Refused(why) => (Code::COMMAND_SYNTAX_ERROR, why.to_string()),
+            Event::Command(command) => match command {
+                Command::Type | Command::Noop => (Code::COMMAND_OKAY, "OK".into()),
+                Command::Syst => (Code::SYSTEM_TYPE, "UNIX Type: L8".into()),
+                Command::Pwd => (Code::DIR_CREATED, "\"/\" is the directory".into()),
+                Command::Quit => (Code::CLOSING_CONTROL_CONNECTION, "Bye".into()),
+                Command::Retr { .. } => return self.send_file(self.path(line)?).await,
+                Command::Stor { .. } => return self.store(self.path(line)?).await,
+                Command::List { .. } => return self.list(true).await,
+                Command::Nlst { .. } => return self.list(false).await,
+                _ => (Code::COMMAND_NOT_IMPLEMENTED, "Not implemented".into()),
+            },
         };
         Ok(Reply::new(code, text))
     }
 
     /// The path of a file of the folder.
-    fn path(&self, name: &str) -> io::Result<PathBuf> {
-        match name.strip_prefix('/').unwrap_or(name) {
-            "" | "." | ".." => Err(ErrorKind::InvalidInput.into()),
-            name if name.contains('/') => Err(ErrorKind::NotFound.into()),
-            name => Ok(self.folder.join(name)),
+    fn path(&self, line: &OwnedLine) -> Result<PathBuf, Reply> {
+        let name = line.parameter().unwrap_or_default();
+        match name.strip_prefix(b"/").unwrap_or(&name) {
+            b"" | b"." | b".." => Err(Reply::new(Code::FILE_ERROR, "No file")),
+            name if name.contains(&b'/') => Err(Reply::new(Code::FILE_ERROR, "No such folder")),
+            name => Ok(self.folder.join(OsStr::from_bytes(name))),
         }
     }
 
-    /// Listens for a data connection at the address to which the client is connected.
-    async fn listen(&mut self, is_pasv: bool) -> io::Result<Reply> {
-        let own = self.control.get_ref().local_addr()?.ip();
-        let listener = self.data.insert(TcpListener::bind((own, 0)).await?);
-        match listener.local_addr()? {
-            address if !is_pasv => Reply::extended_passive(address.port()),
-            SocketAddr::V4(address) => Reply::passive(address),
-            _ => Ok(Reply::new(Code::CANT_OPEN_DATA_CONNECTION, "Use EPSV over IPv6")),
-        }
-        .map_err(io::Error::other)
-    }
-
-    /// The data connection, once the client opens it. Those of others are closed.
-    async fn open_data(&mut self) -> io::Result<TcpStream> {
-        let listener = self.data.take().ok_or(ErrorKind::NotConnected)?;
+    /// The data connection, once it is open.
+    async fn open_data(&mut self) -> Result<TcpStream, Reply> {
         let opening = Reply::new(Code::FILE_STATUS_OKAY, "Opening the data connection");
-        self.control.send(opening).await.map_err(io::Error::other)?;
-        let client = self.control.get_ref().peer_addr()?.ip();
-        let opened = timeout(OPENING, async {
-            loop {
-                let (data, peer) = listener.accept().await?;
-                if peer.ip() == client {
-                    return Ok(data);
-                }
-            }
-        });
-        opened.await?
+        if self.data_port.is_prepared() && self.control.send(opening).await.is_ok() {
+            let opened = self.data_port.open(OPENING).await;
+            return opened.map_err(failed(Code::CANT_OPEN_DATA_CONNECTION));
+        }
+        Err(Reply::new(Code::CANT_OPEN_DATA_CONNECTION, "No data connection"))
     }
 
-    /// The names of the files, a line each; with their sizes, and a day that is none of theirs.
-    async fn names(&self, is_long: bool) -> io::Result<String> {
-        let (mut lines, mut entries) = (String::new(), fs::read_dir(&self.folder).await?);
+    async fn send_file(&mut self, path: PathBuf) -> Result<Reply, Reply> {
+        let file = File::open(path).await.map_err(failed(Code::FILE_ERROR))?;
+        self.send(file).await
+    }
+
+    /// Sends what a reader has.
+    async fn send(&mut self, mut reader: impl AsyncRead + Unpin) -> Result<Reply, Reply> {
+        let mut data = self.open_data().await?;
+        copy(&mut reader, &mut data).await.map_err(failed(Code::CONNECTION_CLOSED))?;
+        data.shutdown().await.map_err(failed(Code::CONNECTION_CLOSED))?;
+        Ok(Reply::new(Code::CLOSING_DATA_CONNECTION, "Sent"))
+    }
+
+    async fn store(&mut self, path: PathBuf) -> Result<Reply, Reply> {
+        let mut data = self.open_data().await?;
+        let mut file = File::create(path).await.map_err(failed(Code::FILE_ERROR))?;
+        copy(&mut data, &mut file).await.map_err(failed(Code::CONNECTION_CLOSED))?;
+        file.flush().await.map_err(failed(Code::CONNECTION_CLOSED))?;
+        Ok(Reply::new(Code::CLOSING_DATA_CONNECTION, "Stored"))
+    }
+
+    /// Sends the names of the files, a line each; with their sizes, and a day that is none of theirs.
+    async fn list(&mut self, is_long: bool) -> Result<Reply, Reply> {
+        let names = self.names(is_long).await.map_err(failed(Code::FILE_ERROR))?;
+        self.send(&*names).await
+    }
+
+    async fn names(&self, is_long: bool) -> io::Result<Vec<u8>> {
+        let (mut lines, mut entries) = (Vec::new(), fs::read_dir(&self.folder).await?);
         while let Some(entry) = entries.next_entry().await? {
             let facts = entry.metadata().await?;
-            if let (Ok(name), true) = (entry.file_name().into_string(), facts.is_file()) {
+            if facts.is_file() {
                 let long = format!("-rw-rw-rw- 1 ftp ftp {} Jan  1  2000 ", facts.len());
-                lines.extend([if is_long { &long } else { "" }, &name, "\r\n"]);
+                let start = if is_long { long.as_bytes() } else { b"" };
+                lines.extend([start, entry.file_name().as_bytes(), b"\r\n"].concat());
             }
         }
         Ok(lines)
     }
 }
 
-#[tokio::main]
-async fn main() -> io::Result<()> {
-    let words: Vec<_> = env::args().skip(1).collect();
-    let folder: Arc<Path> = Path::new(words.first().map_or(".", String::as_str)).into();
-    let listener = TcpListener::bind(words.get(1).map_or("127.0.0.1:2121", String::as_str)).await?;
-    println!("{}", listener.local_addr()?.port());
+/// The reply with this code to a fault.
+fn failed(code: Code) -> impl Fn(io::Error) -> Reply {
+    move |error| Reply::new(code, error.kind().to_string())
+}
+
+/// Serves clients. It only ends by an error.
+async fn run(folder: &str, place: &str) -> Result<(), String> {
+    drop(fs::read_dir(folder).await.map_err(|error| format!("{folder}: {error}"))?);
+    let listener = TcpListener::bind(place).await.map_err(|error| format!("{place}: {error}"))?;
+    println!("{}", listener.local_addr().map_or(0, |own| own.port()));
     loop {
-        match listener.accept().await {
-            Ok((stream, _)) => {
-                let control = Framed::new(stream, FtpCodec::new());
-                tokio::spawn(Session { folder: folder.clone(), control, data: None }.serve());
-            }
+        match listener.accept().await.and_then(|(control, _)| Session::new(folder, control)) {
+            Ok(session) => drop(tokio::spawn(session.serve())),
             // no file descriptor is left, or the like: the client stays in the queue
             Err(_) => sleep(Duration::from_millis(100)).await,
         }
+    }
+}
+
+#[tokio::main]
+async fn main() {
+    let words: Vec<_> = env::args().skip(1).collect();
+    let word = |at, default| words.get(at).map_or(default, String::as_str);
+    if let Err(error) = run(word(0, "."), word(1, "127.0.0.1:2121")).await {
+        eprintln!("files: {error}");
+        process::exit(1);
     }
 }

@@ -53,13 +53,13 @@ const FIRST_PORT: u16 = 1024;
 /// use tokio::net::TcpStream;
 /// use unftp_control::{DataPort, OwnedLine, Reply, ReplyCode};
 ///
-/// /// The reply to PASV, EPSV, PORT and EPRT.
+/// // the reply to PASV, EPSV, PORT and EPRT.
 /// fn prepare(data_port: &mut DataPort, line: &OwnedLine) -> Reply {
 ///     let unknown = || Reply::new(ReplyCode::COMMAND_NOT_IMPLEMENTED, "Not implemented");
 ///     data_port.answer(line).unwrap_or_else(unknown)
 /// }
 ///
-/// /// Sends a file.
+/// // sends a file
 /// async fn send(data_port: &mut DataPort, file: &[u8]) -> std::io::Result<()> {
 ///     let mut data = data_port.open(Duration::from_secs(30)).await?;
 ///     data.write_all(file).await?;

@@ -4,8 +4,7 @@
 //! By itself it searches a few new bytes for a line feed, before a call searches them again; finds
 //! where the lines of received replies end; and cuts replies and texts into lines.
 //!
-//! It is a layer and no server: sockets, TLS, data connections, storage and accounts are the
-//! caller's.
+//! It is a layer and no server: sockets, TLS, storage and accounts are the caller's.
 //!
 //! # A server
 //!
@@ -75,6 +74,10 @@
 //! [`find_extended_port`] what a reply 227 and 229 names, and [`host_port`] and [`extended`] write
 //! it; [`Reply::passive`] and [`Reply::extended_passive`] are those replies. Whose address it may be
 //! is the caller's to decide (RFC 2577): [`read_host_port`] says how.
+#![cfg_attr(
+    feature = "tokio-util",
+    doc = "A server's [`DataPort`] decides it, makes the replies and opens the connection."
+)]
 //!
 //! # Linking
 //!
