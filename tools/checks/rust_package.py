@@ -427,7 +427,30 @@ def wants_transfers(host, port, folder, content):
         wants("the code of QUIT", client.quit()[:3], "221")
 
 
-def wants_downloads(port, folder, content):
+def wants_data_ports(port):
+    """The refusals of data connections (RFC 2428, RFC 2577), and one that another address opens, which is closed."""
+    with ftplib.FTP(timeout=PATIENCE) as client:
+        client.connect(HOST, port)
+        client.login("anna", "secret")
+        for line, code in [("PORT 127,0,0,1,3,255", "504"), ("EPRT |1|127.0.0.2|1024|", "504"), ("EPRT |2|::1|1024|", "522"), ("EPSV 2", "522"),
+                           ("EPRT |3|a|1|", "522"), ("EPRT", "501"), ("PORT 127,0,0,1,0,0", "501"), ("PORT 1,2,3", "501"), ("EPSV x", "501")]:
+            wants(f"the code of {line}", refused_code(client, line), code)
+        wants("the code of EPSV 1", client.sendcmd("EPSV 1")[:3], "229")
+        address = client.makepasv()
+        client.putcmd("NLST")
+        with socket.create_connection(address, PATIENCE, ("127.0.0.2", 0)) as other:
+            wants("the code of NLST", client.getresp()[:3], "150")
+            wants("what another address gets", receive(other), b"")
+        with socket.create_connection(address, PATIENCE) as own:
+            wants("the names that its own address gets", len(receive(own).splitlines()), len(NAMES))
+        wants("the code after it", client.getresp()[:3], "226")
+        wants("the code of EPSV ALL", client.sendcmd("EPSV ALL")[:3], "200")
+        for line in ["PASV", "PORT 127,0,0,1,4,0", "EPRT |1|127.0.0.1|1024|"]:
+            wants(f"the code of {line} after EPSV ALL", refused_code(client, line), "503")
+        wants("the names after EPSV", client.sendcmd("EPSV")[:3], "229")
+
+
+def wants_downloads(port, content):
     """What curl and lftp list and get, by EPSV and by PASV. Those that are not installed are left out: how many are not."""
     clients = {
         "curl": ["curl", "-q", "-sS", "-u", "anna:secret", f"ftp://{HOST}:{port}/new"],
@@ -454,7 +477,9 @@ def check_files(program):
             outside.write_bytes(b"outside")
             with StartedServer([program, folder, f"[{host}]:0" if ":" in host else f"{host}:0"], log) as server:
                 wants_transfers(host, server.port, folder, content)
-                found = wants_downloads(server.port, folder, content) if host == HOST else found
+                if host == HOST:
+                    wants_data_ports(server.port)
+                    found = wants_downloads(server.port, content)
             wants("what is outside", outside.read_bytes(), b"outside")
             log.seek(0)
             lines = log.read().splitlines()
@@ -469,7 +494,7 @@ def check_proxy(program, server):
         folder = pathlib.Path(place)
         (folder / "new").write_bytes(content)
         with StartedServer([server, folder, f"{HOST}:0"], log) as behind, StartedServer([program, f"{HOST}:{behind.port}", f"{HOST}:0"]) as proxy:
-            found = wants_downloads(proxy.port, folder, content)
+            found = wants_downloads(proxy.port, content)
             with ftplib.FTP(timeout=PATIENCE) as client:
                 client.connect(HOST, proxy.port)
                 client.login("anna", "secret")

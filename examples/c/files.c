@@ -1,0 +1,448 @@
+/*
+ * A server that transfers files, with a process for each client:
+ *
+ *     files [FOLDER [ADDRESS:PORT]]
+ *
+ * Who logs in as anna with the password secret may list, read and write the files of the folder, of
+ * which none is in a folder below it. Names are the bytes that a client sends. It follows links, and
+ * answers a transfer before it reads the next line, so that ABOR comes too late. It prints its port
+ * as one line, and logs each line of a client. An address of IPv6 is in brackets. server.c shows
+ * limits on clients and a clean end.
+ */
+#define _POSIX_C_SOURCE 200809L
+
+#include "data_connection.h"
+
+#include <unftp_control.h>
+
+#include <dirent.h>
+#include <limits.h>
+#include <netdb.h>
+#include <signal.h>
+#include <stdlib.h>
+#include <sys/stat.h>
+#include <sys/time.h>
+#include <sys/types.h>
+
+enum {
+    LINE_LIMIT = 4096,
+    READ_MOST = 4096,
+    AREA_ROOM = 3 * LINE_LIMIT,
+    LOG_ROOM = 4 * LINE_LIMIT + 42,
+    PIECE = 64 * 1024,
+
+    /* an address, and the name of an interface for a link-local one */
+    HOST_ROOM = 64,
+    PORT_ROOM = 8,
+
+    /* how long a client may take to open a data connection, in milliseconds */
+    OPENING = 30 * 1000,
+    /* how long a client may send or take nothing, in seconds */
+    IDLE = 300
+};
+
+struct session {
+    int control;
+    const char *peer;
+    struct unftp_connection connection;
+    struct unftp_login login;
+    char name[LINE_LIMIT];
+    size_t name_len;
+    struct data_port data;
+    char bytes[LINE_LIMIT + READ_MOST]; /* those from start to end are pending */
+    size_t start;
+    size_t end;
+};
+
+static bool send_bytes(int socket, const char *bytes, size_t len)
+{
+    while (len > 0) {
+        ssize_t sent = write(socket, bytes, len);
+
+        if (sent < 0 && errno != EINTR)
+            return false;
+        if (sent > 0) {
+            bytes += sent;
+            len -= (size_t)sent;
+        }
+    }
+    return true;
+}
+
+/* Sends a reply with this text, which is short; false where the session is over. */
+static bool answer(struct session *session, uint32_t code, const char *text)
+{
+    char reply[DATA_TEXT_ROOM + 16];
+    size_t len;
+
+    return unftp_reply(code, text, strlen(text), reply, sizeof reply, &len) == UNFTP_DONE
+        && send_bytes(session->control, reply, len);
+}
+
+/* The path of the file that a line names; NULL where that is none of the folder. */
+static const char *path_of(const char *line, size_t line_len, char *path)
+{
+    size_t len;
+    const char *name = path;
+
+    if (unftp_parameter(line, line_len, path, NAME_MAX + 1, &len) != UNFTP_DONE)
+        return NULL;
+    path[len] = '\0';
+    if (*name == '/')
+        name++;
+    if (*name == '\0' || strlen(path) != len || strchr(name, '/') != NULL
+        || strcmp(name, ".") == 0 || strcmp(name, "..") == 0)
+        return NULL;
+    return name;
+}
+
+/* Ends waiting for a client that sends or takes nothing. */
+static void limit_waiting(int socket)
+{
+    struct timeval idle = {.tv_sec = IDLE};
+
+    setsockopt(socket, SOL_SOCKET, SO_RCVTIMEO, &idle, sizeof idle);
+    setsockopt(socket, SOL_SOCKET, SO_SNDTIMEO, &idle, sizeof idle);
+}
+
+/* The data connection, once it is open; or -1, where the client was answered 425. */
+static int open_data(struct session *session, bool *is_open)
+{
+    const char *text = "PASV or EPSV comes first";
+    int data = -1;
+
+    *is_open = true;
+    if (data_port_is_prepared(&session->data)) {
+        *is_open = answer(session, UNFTP_CODE_FILE_STATUS_OKAY, "Opening the data connection");
+        data = data_port_open(&session->data, OPENING);
+        text = strerror(errno);
+    }
+    if (data >= 0)
+        limit_waiting(data);
+    else
+        *is_open = *is_open && answer(session, UNFTP_CODE_CANT_OPEN_DATA_CONNECTION, text);
+    return data;
+}
+
+/* Copies up to the end. */
+static bool copy(int from, int to)
+{
+    char piece[PIECE];
+    ssize_t got;
+
+    while ((got = read(from, piece, sizeof piece)) > 0) {
+        if (!send_bytes(to, piece, (size_t)got))
+            return false;
+    }
+    return got == 0;
+}
+
+/* Closes the data connection, and sends the final reply. */
+static bool end_transfer(struct session *session, int data, bool is_done)
+{
+    close(data);
+    return is_done ? answer(session, UNFTP_CODE_CLOSING_DATA_CONNECTION, "Done")
+                   : answer(session, UNFTP_CODE_CONNECTION_CLOSED, "Cut");
+}
+
+/* Sends what a file has. */
+static bool send_file(struct session *session, int file)
+{
+    bool is_open;
+    int data = open_data(session, &is_open);
+
+    if (data < 0)
+        return is_open;
+    return end_transfer(session, data, copy(file, data) && shutdown(data, SHUT_WR) == 0);
+}
+
+static bool answer_no_file(struct session *session)
+{
+    return answer(session, UNFTP_CODE_FILE_ERROR, strerror(errno));
+}
+
+static bool retrieve(struct session *session, const char *path)
+{
+    int file = open(path, O_RDONLY | O_CLOEXEC);
+    bool is_open;
+
+    if (file < 0)
+        return answer_no_file(session);
+    is_open = send_file(session, file);
+    close(file);
+    return is_open;
+}
+
+static bool store(struct session *session, const char *path)
+{
+    bool is_open, is_done;
+    int file, data = open_data(session, &is_open);
+
+    if (data < 0)
+        return is_open;
+    file = open(path, O_WRONLY | O_CREAT | O_TRUNC | O_CLOEXEC, 0666);
+    if (file < 0) {
+        is_open = answer_no_file(session);
+        close(data);
+        return is_open;
+    }
+    is_done = copy(data, file);
+    is_done = close(file) == 0 && is_done;
+    return end_transfer(session, data, is_done);
+}
+
+/* RETR and STOR. */
+static bool transfer_file(struct session *session, enum unftp_result command, const char *line,
+                          size_t len)
+{
+    char area[NAME_MAX + 2];
+    const char *path = path_of(line, len, area);
+
+    if (path == NULL)
+        return answer(session, UNFTP_CODE_FILE_ERROR, "No file");
+    return command == UNFTP_STOR ? store(session, path) : retrieve(session, path);
+}
+
+/* Writes the names of the files, a line each; with their sizes, and a day that is none of theirs. */
+static void write_names(FILE *lines, DIR *folder, bool is_long)
+{
+    const struct dirent *entry;
+    struct stat facts;
+
+    while ((entry = readdir(folder)) != NULL) {
+        if (stat(entry->d_name, &facts) < 0 || !S_ISREG(facts.st_mode))
+            continue;
+        if (is_long)
+            fprintf(lines, "-rw-rw-rw- 1 ftp ftp %lld Jan  1  2000 ", (long long)facts.st_size);
+        fprintf(lines, "%s\r\n", entry->d_name);
+    }
+}
+
+/* LIST and NLST. */
+static bool transfer_names(struct session *session, bool is_long)
+{
+    FILE *lines = tmpfile();
+    DIR *folder = opendir(".");
+    bool is_open, is_whole = false;
+
+    if (lines != NULL && folder != NULL) {
+        write_names(lines, folder, is_long);
+        is_whole = fflush(lines) == 0 && lseek(fileno(lines), 0, SEEK_SET) == 0;
+    }
+    is_open = is_whole ? send_file(session, fileno(lines))
+                       : answer(session, UNFTP_CODE_LOCAL_ERROR, "The folder can't be read");
+    if (folder != NULL)
+        closedir(folder);
+    if (lines != NULL)
+        fclose(lines);
+    return is_open;
+}
+
+/* Answers a line of somebody who may give it; false where the session is over. */
+static bool answer_command(struct session *session, enum unftp_result command, const char *line,
+                           size_t len)
+{
+    char text[DATA_TEXT_ROOM];
+    uint32_t code = data_port_answer(&session->data, command, line, len, text);
+
+    if (code != 0)
+        return answer(session, code, text);
+    switch (command) {
+    case UNFTP_TYPE: case UNFTP_NOOP: return answer(session, UNFTP_CODE_COMMAND_OKAY, "OK");
+    case UNFTP_SYST: return answer(session, UNFTP_CODE_SYSTEM_TYPE, "UNIX Type: L8");
+    case UNFTP_PWD: return answer(session, UNFTP_CODE_DIR_CREATED, "\"/\" is the directory");
+    case UNFTP_RETR: case UNFTP_STOR: return transfer_file(session, command, line, len);
+    case UNFTP_LIST: return transfer_names(session, true);
+    case UNFTP_NLST: return transfer_names(session, false);
+    case UNFTP_QUIT:
+        answer(session, UNFTP_CODE_CLOSING_CONTROL_CONNECTION, "Bye");
+        return false;
+    case UNFTP_INVALID_COMMAND: case UNFTP_INVALID_UTF8: case UNFTP_INVALID_EOL:
+    case UNFTP_LINE_TOO_LONG:
+        return answer(session, UNFTP_CODE_COMMAND_SYNTAX_ERROR, unftp_result_text(command));
+    case UNFTP_OUT_OF_MEMORY: case UNFTP_NO_ROOM: case UNFTP_INVALID_ARGUMENT:
+        answer(session, UNFTP_CODE_SERVICE_NOT_AVAILABLE, unftp_result_text(command));
+        return false;
+    default: return answer(session, UNFTP_CODE_COMMAND_NOT_IMPLEMENTED, "Not implemented");
+    }
+}
+
+/* Whether the accounts have this name with this password. */
+static bool is_account(const struct session *session, const char *password, size_t len)
+{
+    return session->name_len == 4 && memcmp(session->name, "anna", 4) == 0 && len == 6
+        && memcmp(password, "secret", 6) == 0;
+}
+
+/* Answers a line; false where the session is over. */
+static bool answer_line(struct session *session, enum unftp_result command, const char *line,
+                        const char *value, const struct unftp_line *found)
+{
+    switch (unftp_login_event(&session->login, (uint32_t)command)) {
+    case UNFTP_LOGIN_PASS_ON: return answer_command(session, command, line, found->used);
+    case UNFTP_LOGIN_NEED_PASSWORD:
+        session->name_len = found->value_len;
+        memcpy(session->name, value, found->value_len);
+        return answer(session, UNFTP_CODE_NEED_PASSWORD, "Password required");
+    case UNFTP_LOGIN_ASK_ACCOUNTS: {
+        bool is_right = is_account(session, value, found->value_len);
+
+        unftp_login_answer(&session->login, is_right);
+        return is_right ? answer(session, UNFTP_CODE_USER_LOGGED_IN, "Logged in")
+                        : answer(session, UNFTP_CODE_NOT_LOGGED_IN, "Login incorrect");
+    }
+    case UNFTP_LOGIN_NEED_NAME:
+        return answer(session, UNFTP_CODE_BAD_COMMAND_SEQUENCE, "USER comes first");
+    case UNFTP_LOGIN_NEED_LOGIN: break;
+    }
+    return answer(session, UNFTP_CODE_NOT_LOGGED_IN, "Log in with USER and PASS");
+}
+
+/* Logs what may be shown of a line. */
+static void log_line(const struct session *session, enum unftp_result command, const char *line,
+                     size_t line_len)
+{
+    char shown[LOG_ROOM];
+    size_t len;
+    uint32_t hides;
+
+    if (unftp_log_line((uint32_t)command, line, line_len, shown, sizeof shown, &len, &hides)
+        == UNFTP_DONE)
+        fprintf(stderr, "%s: %.*s\n", session->peer, (int)len, shown);
+    else
+        fprintf(stderr, "%s: a line\n", session->peer);
+}
+
+/* Answers the complete lines of the pending bytes; false where the session is over. */
+static bool answer_lines(struct session *session)
+{
+    char area[AREA_ROOM];
+    struct unftp_line line;
+    bool is_open = true;
+
+    while (is_open) {
+        const char *bytes = session->bytes + session->start;
+        enum unftp_result result = unftp_next(&session->connection, bytes,
+                                              session->end - session->start, area, sizeof area,
+                                              &line);
+
+        if (result == UNFTP_MORE) {
+            session->start += line.used;
+            return true;
+        }
+        log_line(session, result, bytes, line.used);
+        is_open = answer_line(session, result, bytes, unftp_value(&line, bytes, area), &line);
+        session->start += line.used; /* after the answer: the value may be in these bytes */
+    }
+    return false;
+}
+
+/* Serves a client up to QUIT, or its end. */
+static void serve(int control, const char *peer)
+{
+    struct session session = {.control = control, .peer = peer,
+                              .connection = {.limit = LINE_LIMIT}};
+    bool is_open = data_port_start(&session.data, control);
+
+    limit_waiting(control);
+    is_open = is_open && answer(&session, UNFTP_CODE_SERVICE_READY, "Ready");
+    while (is_open) {
+        ssize_t got;
+
+        session.end -= session.start;
+        memmove(session.bytes, session.bytes + session.start, session.end);
+        session.start = 0;
+        got = read(control, session.bytes + session.end, sizeof session.bytes - session.end);
+        if (got > 0)
+            session.end += (size_t)got;
+        is_open = got > 0 && answer_lines(&session);
+    }
+}
+
+/* Listens at an address with a port, where the last colon is between both; or -1. */
+static int listen_at(char *place)
+{
+    struct addrinfo hints = {.ai_flags = AI_NUMERICHOST | AI_PASSIVE, .ai_socktype = SOCK_STREAM};
+    struct addrinfo *found;
+    char *colon = strrchr(place, ':');
+    int listener, on = 1;
+
+    if (colon == NULL)
+        return -1;
+    *colon = '\0';
+    if (*place == '[' && colon > place + 1 && colon[-1] == ']') {
+        colon[-1] = '\0';
+        place++;
+    }
+    if (getaddrinfo(place, colon + 1, &hints, &found) != 0)
+        return -1;
+    listener = socket(found->ai_family, SOCK_STREAM, 0);
+    if (listener >= 0
+        && (setsockopt(listener, SOL_SOCKET, SO_REUSEADDR, &on, sizeof on) < 0
+            || bind(listener, found->ai_addr, found->ai_addrlen) < 0
+            || listen(listener, SOMAXCONN) < 0)) {
+        close(listener);
+        listener = -1;
+    }
+    freeaddrinfo(found);
+    return listener;
+}
+
+/* The host of an address, and its port. */
+static void show(const struct sockaddr_storage *address, socklen_t len, char *host, char *port)
+{
+    if (getnameinfo((const struct sockaddr *)address, len, host, HOST_ROOM, port, PORT_ROOM,
+                    NI_NUMERICHOST | NI_NUMERICSERV) != 0)
+        *host = *port = '\0';
+}
+
+/* Serves the next client in a process of its own. */
+static void serve_next(int listener)
+{
+    struct sockaddr_storage peer;
+    socklen_t len = sizeof peer;
+    char host[HOST_ROOM], port[PORT_ROOM];
+    int control = accept(listener, (struct sockaddr *)&peer, &len);
+    pid_t process = control < 0 ? -1 : fork();
+
+    if (process == 0) {
+        close(listener);
+        show(&peer, len, host, port);
+        serve(control, host);
+        _exit(EXIT_SUCCESS);
+    }
+    if (control >= 0)
+        close(control);
+    if (process < 0) { /* no descriptor or process is left, or the like */
+        struct timespec pause = {.tv_nsec = 100 * 1000 * 1000};
+
+        nanosleep(&pause, NULL);
+    }
+}
+
+int main(int count, char **arguments)
+{
+    struct sockaddr_storage own;
+    socklen_t len = sizeof own;
+    char host[HOST_ROOM], port[PORT_ROOM];
+    char usual_place[] = "127.0.0.1:2121", *place = count > 2 ? arguments[2] : usual_place;
+    const char *folder = count > 1 ? arguments[1] : ".";
+    int listener;
+
+    if (chdir(folder) < 0) {
+        fprintf(stderr, "files: %s: %s\n", folder, strerror(errno));
+        return EXIT_FAILURE;
+    }
+    listener = listen_at(place);
+    if (listener < 0 || getsockname(listener, (struct sockaddr *)&own, &len) < 0) {
+        fputs("files: it can't listen there, or that is no address with a port\n", stderr);
+        return EXIT_FAILURE;
+    }
+    signal(SIGPIPE, SIG_IGN);
+    signal(SIGCHLD, SIG_IGN); /* no process is waited for */
+    show(&own, len, host, port);
+    printf("%s\n", port);
+    fflush(stdout);
+    for (;;)
+        serve_next(listener);
+}
