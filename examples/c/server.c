@@ -10,7 +10,8 @@
  *
  * It prints its port as one line; where PORT is 0, the system picks one. SIGTERM, SIGINT and SIGHUP
  * end it once its sessions have ended; each that waits for a command answers 421. A second one ends
- * it at once. TLS, data connections and logins are left out.
+ * it at once. Who logs in as anna with the password secret may give every command. TLS and data
+ * connections are left out: files.c has the latter.
  */
 #define _POSIX_C_SOURCE 200809L
 
@@ -83,6 +84,9 @@ struct client {
     bool is_late; /* wait_for has looked once since the deadline has come */
     const struct options *options;
     struct unftp_connection connection;
+    struct unftp_login login;
+    char name[LINE_LIMIT]; /* the last one that was given */
+    size_t name_len;
     char bytes[PENDING_ROOM];
     size_t start;
     size_t end;
@@ -297,10 +301,10 @@ static bool answer_refusal(struct client *client, enum unftp_result result)
     }
 }
 
-/* Answers a line; false where the session is over. A password is in no reply. Without a default, a
-   compiler names the commands that are forgotten. */
-static bool answer_line(struct client *client, enum unftp_result result,
-                        const struct command *command)
+/* Answers a line as if there were no login; false where the session is over. A password is in no
+   reply. Without a default, a compiler names the commands that are forgotten. */
+static bool answer_command(struct client *client, enum unftp_result result,
+                           const struct command *command)
 {
     static const char features[] = "Features:\n UTF8\nEnd";
     static const char help[] =
@@ -308,8 +312,6 @@ static bool answer_line(struct client *client, enum unftp_result result,
     static const char directory[] = "\"/\" is the current directory";
 
     switch (result) {
-    case UNFTP_USER: return send_text(client, UNFTP_CODE_NEED_PASSWORD, "Password required");
-    case UNFTP_PASS: return send_text(client, UNFTP_CODE_USER_LOGGED_IN, "Logged in");
     case UNFTP_ACCT:
         return send_text(client, UNFTP_CODE_COMMAND_OKAY_NOT_IMPLEMENTED, "No account needed");
     case UNFTP_SYST: return send_text(client, UNFTP_CODE_SYSTEM_TYPE, "UNIX Type: L8");
@@ -319,7 +321,7 @@ static bool answer_line(struct client *client, enum unftp_result result,
     case UNFTP_PWD: return send_text(client, UNFTP_CODE_DIR_CREATED, directory);
     case UNFTP_SITE: return answer_site(client, command);
     case UNFTP_QUIT: return answer_quit(client);
-    case UNFTP_STAT: case UNFTP_STRU: case UNFTP_MODE: case UNFTP_PASV: case UNFTP_EPSV:
+    case UNFTP_USER: case UNFTP_PASS: case UNFTP_STAT: case UNFTP_STRU: case UNFTP_MODE: case UNFTP_PASV: case UNFTP_EPSV:
     case UNFTP_PORT: case UNFTP_RETR: case UNFTP_STOR: case UNFTP_APPE: case UNFTP_LIST:
     case UNFTP_NLST: case UNFTP_MLST: case UNFTP_MLSD: case UNFTP_CWD: case UNFTP_CDUP:
     case UNFTP_OPTS: case UNFTP_DELE: case UNFTP_RMD: case UNFTP_MKD: case UNFTP_ALLO:
@@ -334,6 +336,43 @@ static bool answer_line(struct client *client, enum unftp_result result,
         break;
     }
     return answer_refusal(client, result);
+}
+
+/* Whether this is the password of the name. A server of yours asks its accounts. */
+static bool is_account(const struct client *client, const char *password, size_t len)
+{
+    static const char name[] = "anna", secret[] = "secret";
+
+    return client->name_len == sizeof name - 1 && memcmp(client->name, name, sizeof name - 1) == 0
+        && len == sizeof secret - 1 && memcmp(password, secret, sizeof secret - 1) == 0;
+}
+
+/* Answers PASS after USER: 230 or 530. */
+static bool answer_password(struct client *client, const struct command *command)
+{
+    bool is_right = is_account(client, value_of(command), command->line.value_len);
+
+    unftp_login_answer(&client->login, is_right);
+    return is_right ? send_text(client, UNFTP_CODE_USER_LOGGED_IN, "Logged in")
+                    : send_text(client, UNFTP_CODE_NOT_LOGGED_IN, "Login incorrect");
+}
+
+/* Answers a line; false where the session is over. What needs a login is answered 530 before one. */
+static bool answer_line(struct client *client, enum unftp_result result,
+                        const struct command *command)
+{
+    switch (unftp_login_event(&client->login, (uint32_t)result)) {
+    case UNFTP_LOGIN_PASS_ON: return answer_command(client, result, command);
+    case UNFTP_LOGIN_NEED_PASSWORD:
+        client->name_len = command->line.value_len;
+        memcpy(client->name, value_of(command), client->name_len);
+        return send_text(client, UNFTP_CODE_NEED_PASSWORD, "Password required");
+    case UNFTP_LOGIN_ASK_ACCOUNTS: return answer_password(client, command);
+    case UNFTP_LOGIN_NEED_NAME:
+        return send_text(client, UNFTP_CODE_BAD_COMMAND_SEQUENCE, "USER comes first");
+    case UNFTP_LOGIN_NEED_LOGIN: break;
+    }
+    return send_text(client, UNFTP_CODE_NOT_LOGGED_IN, "Log in with USER and PASS");
 }
 
 /* Takes the next line of the pending bytes: what unftp_next returns. */

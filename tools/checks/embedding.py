@@ -61,8 +61,6 @@ REFUSALS = {
 }
 
 REPLIES = {
-    "User": b"331 Password required\r\n",
-    "Pass": b"230 Logged in\r\n",
     "Acct": b"202 No account needed\r\n",
     "Syst": b"215 UNIX Type: L8\r\n",
     "TypeCode": b"200 OK\r\n",
@@ -119,6 +117,45 @@ def reply_to(answer):
     return b"502 " + text + b"\r\n"
 
 
+# what needs no login (docs/TOPICS.md)
+WITHOUT_LOGIN = {"Quit", "Auth", "Pbsz", "Prot", "Feat", "Help", "Noop", "Syst"}
+ACCOUNT = {"User": b"anna", "Pass": b"secret"}
+NEED_PASSWORD, LOGGED_IN = b"331 Password required\r\n", b"230 Logged in\r\n"
+
+
+class Replies:
+    """The replies of a session, by the answers of its lines: those of the login, and after one those of `reply_to`."""
+
+    def __init__(self):
+        self.name, self.is_member = None, False
+
+    def to(self, answer):
+        """The reply to the next line."""
+        variant, fields = command_of(answer) if answer.startswith("ok ") else ("", {})
+        if variant == "Pass":
+            return self.to_password([*fields.values()][-1])
+        if variant in ["User", "Auth"]:
+            self.name, self.is_member = None, False
+        if variant == "User":
+            self.name = [*fields.values()][-1]
+            return NEED_PASSWORD
+        if variant == "" or variant in WITHOUT_LOGIN or self.is_member:
+            return reply_to(answer)
+        return b"530 Log in with USER and PASS\r\n"
+
+    def to_password(self, password):
+        name, self.name = self.name, None
+        if name is None:
+            return b"503 USER comes first\r\n"
+        self.is_member = (name, password) == (ACCOUNT["User"], ACCOUNT["Pass"])
+        return LOGGED_IN if self.is_member else b"530 Login incorrect\r\n"
+
+    def log_in(self):
+        """The lines of a login, and their replies."""
+        self.name, self.is_member = None, True
+        return [(b"USER anna\r\n", NEED_PASSWORD), (b"PASS secret\r\n", LOGGED_IN)]
+
+
 class Server(StartedServer):
     """The server while it runs, with these words before its port. At the end it is stopped as an administrator stops it, and has to end
     with this status, having written `said` to standard error."""
@@ -173,18 +210,20 @@ def converse(server, lines, replies):
 
 
 def sessions_of(lines):
-    """The lines with their replies, up to each QUIT."""
-    session = []
+    """The lines with their replies, up to each QUIT: after a login, and after another one where a line ends it."""
+    session, replies = [], Replies()
     for line, answer in lines:
-        session.append((line, reply_to(answer)))
+        if not replies.is_member and not answer.startswith("ok Pass "):
+            session += replies.log_in()
+        session.append((line, replies.to(answer)))
         if answer == "ok Quit":
             yield session
-            session = []
+            session, replies = [], Replies()
     yield session
 
 
 def long_lines():
-    """Lines at the limit, longer ones, and one between them."""
+    """Lines at the limit, longer ones, and one between them, of somebody who has logged in."""
     fitting = b"SITE ECHO ".ljust(LINE_LIMIT - 2, b"x")
     noop = (b"NOOP\r\n", REPLIES["Noop"])
     yield fitting + b"\r\n", b"200 " + fitting[10:] + b"\r\n"
@@ -201,7 +240,7 @@ def check_sessions(*arguments):
     """All lines, over as many connections as there are QUITs, and one beside them."""
     lines = one_lines()
     with Server(arguments) as server, server.greeted() as beside:
-        sessions = [*sessions_of(lines), [*long_lines()]]
+        sessions = [*sessions_of(lines), [*Replies().log_in(), *long_lines()]]
         for session in sessions:
             converse(server, [line for line, _ in session], [reply for _, reply in session])
         beside.sendall(b"noop\n")
@@ -222,19 +261,24 @@ def kinds_of_lines():
 
 
 def check_session(*arguments):
-    """One line of each kind, over one connection."""
-    session = [(line, reply_to(answer)) for line, answer in kinds_of_lines()]
-    session[-1:-1] = long_lines()
+    """One line of each kind, over one connection after a login, and over one without."""
+    replies = Replies()
+    without = [(line, replies.to(answer)) for line, answer in kinds_of_lines()]
+    [session, _] = sessions_of(kinds_of_lines())
+    session[-1:-1] = [*Replies().log_in(), *long_lines()]
     with Server(arguments) as server:
-        converse(server, [line for line, _ in session], [reply for _, reply in session])
-    return f"{len(session)} lines answered"
+        for each in [session, without]:
+            converse(server, [line for line, _ in each], [reply for _, reply in each])
+    return f"{len(session)} lines answered, and {len(without)} without a login"
 
 
 def replies_without(preload, program, number):
     """What the server sends where this allocation fails, and whether it has come to that."""
     lines = [b"RETR a\r\0b\r\n", b"FEAT\r\n", b"STAT \xff\r\n", b"SITE ECHO a\r\n"]
     answers = ['ok Retr path="a\\rb"', "ok Feat", 'ok Stat path="\\xff"', 'ok Site command="ECHO" arguments="a"']
-    replies = [GREETING, *map(reply_to, answers)]
+    login = Replies().log_in()
+    lines = [line for line, _ in login] + lines
+    replies = [GREETING, *[reply for _, reply in login], *map(reply_to, answers)]
     with Server(["env", f"LD_PRELOAD={preload}", f"FAIL_AT={number}", program]) as server:
         with socket.create_connection((HOST, server.port), PATIENCE) as connection:
             send_all(connection, b"".join(lines), ends=True)
