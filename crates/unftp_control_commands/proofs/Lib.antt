@@ -2,3 +2,4 @@ pub mod AreaLemmas
 mod ReplaceLemmas
 mod QuoteLemmas
 mod SingleLineLemmas
+pub mod UsualReplyLemmas

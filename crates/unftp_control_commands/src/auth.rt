@@ -12,6 +12,9 @@ use unftp_control_defs::parameters::AuthParam;
 use unftp_control_message::reply::error::ControlChanError;
 use unftp_control_message::reply::{Reply, ReplyCode};
 
+/// The text of the reply to a command of TLS where none is configured.
+pub(crate) const NO_TLS: &str = "TLS/SSL not configured";
+
 /// AUTH with its mechanism.
 #[derive(Debug, Drop)]
 pub struct Auth {
@@ -49,7 +52,7 @@ impl Auth {
         let (code, text, change) = match (tls_configured, &self.protocol) {
             (false, _) => (
                 ReplyCode::CommandNotImplemented,
-                "TLS/SSL not configured",
+                NO_TLS,
                 SessionChange::Nothing,
             ),
             (true, AuthParam::Tls) => (

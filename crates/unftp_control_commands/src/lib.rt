@@ -14,6 +14,7 @@ mod prot;
 mod session;
 mod stru;
 mod texts;
+mod usual;
 
 pub use auth::Auth;
 pub use epsv::{Epsv, Passive, make_epsv_reply, same_passives};
@@ -30,3 +31,4 @@ pub use texts::{
     write_quoted,
 };
 pub use unftp_control_defs::parameters::{AuthParam, ModeParam, Opt, ProtParam, StruParam};
+pub use usual::{usual_line, usual_lines_are_of_commands};

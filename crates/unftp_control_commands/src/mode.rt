@@ -1,8 +1,10 @@
 //! MODE (RFC 959, section 4.1.2).
-ghost use Rattle.std.specs.Prelude.{◌≡◌, IfOk, IfErr};
+ghost use Rattle.std.specs.Prelude.{◌≡◌, if◌then◌else◌, IfOk, IfErr, bytes_eq, codes};
 ghost use Rattle.unftp_control_defs.specs.Events.{out_of_memory};
+ghost use Rattle.unftp_control_defs.specs.FtpReply.{CodeAndMsg};
+ghost use Rattle.unftp_control_defs.specs.declared.parameters.ModeParam.TheVariants.{Block, Stream};
 ghost use Rattle.unftp_control_message.specs.ErrorMeaning.{fault_of};
-ghost use Rattle.unftp_control_message.specs.ReplyMeaning.{reply_of};
+ghost use Rattle.unftp_control_message.specs.ReplyMeaning.{number_of, reply_of};
 ghost use Rattle.unftp_control_commands.specs.Answers.{mode_reply};
 
 use std::alloc::Global;
@@ -39,13 +41,31 @@ impl Mode {
         ensures ok { IfOk result (λ reply. reply_of reply ≡ mode_reply self.now) }
         ensures err { IfErr result (λ error. fault_of error ≡ out_of_memory) }
     {
-        let (code, text) = match &self.params {
-            ModeParam::Stream => (ReplyCode::CommandOkay, "Using Stream transfer mode"),
-            _ => (
-                ReplyCode::CommandNotImplementedForParameter,
-                "Only Stream transfer mode is supported",
-            ),
-        };
+        let (code, text) = mode_line(&self.params);
         Reply::new(alloc, code, text)
+    }
+}
+
+/// The code and the text of the reply to MODE with this transfer mode.
+pub(crate) fn mode_line(mode: &ModeParam) -> (ReplyCode, &'static str)
+    ensures { CodeAndMsg (number_of result.0) result.1.now ≡ mode_reply mode.now }
+{
+    match mode {
+        ModeParam::Stream => (ReplyCode::CommandOkay, "Using Stream transfer mode"),
+        _ => (
+            ReplyCode::CommandNotImplementedForParameter,
+            "Only Stream transfer mode is supported",
+        ),
+    }
+}
+
+/// The transfer mode of a value: for any but `S` one that is not supported.
+pub(crate) fn mode_of(value: &[u8]) -> ModeParam
+    ensures { result ≡ (if bytes_eq value.now (codes "S") then Stream else Block) }
+{
+    if value == b"S".as_slice() {
+        ModeParam::Stream
+    } else {
+        ModeParam::Block
     }
 }

@@ -5,6 +5,7 @@ ghost use Rattle.unftp_control_message.specs.ErrorMeaning.{fault_of};
 ghost use Rattle.unftp_control_message.specs.ReplyMeaning.{reply_of};
 ghost use Rattle.unftp_control_commands.specs.Answers.{prot_reply, prot_change};
 
+use crate::auth::NO_TLS;
 use crate::session::SessionChange;
 use std::alloc::Global;
 use std::marker::Model;
@@ -49,7 +50,7 @@ impl Prot {
         let (code, text, change) = match (tls_configured, &self.param) {
             (false, _) => (
                 ReplyCode::CommandNotImplemented,
-                "TLS/SSL not configured",
+                NO_TLS,
                 SessionChange::Nothing,
             ),
             (true, ProtParam::Clear) => (
