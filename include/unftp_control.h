@@ -28,6 +28,7 @@
  *     unftp_list_path              line                out, len                 none
  *     unftp_reply                  code, text          out, len                 none
  *     unftp_quoted_path            path                out, len                 none
+ *     unftp_usual_reply            event, value        out, len                 none
  *     unftp_front_reply            bytes               reply                    none
  *     unftp_reply_lines            bytes               out, len                 40 n + 100
  *     unftp_canonical              line                out, len                 some
@@ -43,6 +44,7 @@
  *     unftp_client_may_begin_tls   client, pending     nothing                  none
  *     unftp_login_event            login, event        login                    none
  *     unftp_login_answer           login, accepted     login                    none
+ *     unftp_login_reply            step, accepted      out, len                 none
  *     unftp_read_address           form, text          ip, address              none
  *     unftp_write_address          form, ip, port      out, len                 some
  *     unftp_version                nothing             nothing                  none
@@ -152,7 +154,7 @@ enum unftp_result {
     /* No call leaves such a connection: its offset is past the bytes, or is not 0 while bytes are
        skipped, or skipping is greater than 1. Or 2^64 - 1 lines were noted; or the accounts were
        not asked; or an address has no such form, length or port; or what is shown of a line is not
-       printable. */
+       printable; or an event or a step has no reply. */
     UNFTP_INVALID_ARGUMENT = 111,
     /* The text has no such address. */
     UNFTP_NO_ADDRESS = 112,
@@ -469,6 +471,41 @@ enum unftp_result unftp_quoted_path(const char *path, size_t path_len,
                                     char *out, size_t out_room, size_t *len) UNFTP_NONNULL;
 
 /*
+ * Writes the usual reply to an event to the start of out, and *len is how many bytes it has: what a
+ * server answers that does nothing for the event. The event is the number that unftp_next returned,
+ * and the value the command's, of which only those of STRU, MODE and OPTS are read.
+ *
+ *     the event                          the reply
+ *     UNFTP_INVALID_COMMAND              501 Invalid parameter
+ *     UNFTP_INVALID_UTF8                 500 The command is not UTF-8
+ *     UNFTP_INVALID_EOL                  500 Invalid line ending
+ *     UNFTP_LINE_TOO_LONG                500 Line too long
+ *     UNFTP_OUT_OF_MEMORY                421 Out of memory; close the connection after it
+ *     UNFTP_NOOP                         200 OK
+ *     UNFTP_QUIT                         221 Bye; close the connection after it
+ *     UNFTP_HELP                         214 This is an FTP server
+ *     UNFTP_SYST                         215 UNIX Type: L8
+ *     UNFTP_ACCT                         202 No account is needed
+ *     UNFTP_ALLO                         202 No storage has to be allocated
+ *     UNFTP_STRU with F, another         200 In File structure mode, 504
+ *     UNFTP_MODE with S, another         200 Using Stream transfer mode, 504
+ *     UNFTP_OPTS with UTF8 ON, another   200 Always in UTF-8 mode., 504
+ *     UNFTP_TYPE                         504 The representation type stays as it is
+ *     UNFTP_AUTH, _PROT, _PBSZ, _CCC     502 TLS/SSL not configured
+ *     any other command                  502 Not implemented
+ *
+ * These are of RFC 959, sections 4.2.2 and 5.4. A server answers TYPE itself where it has a type:
+ * by 200 where unftp_parameter writes A or I. It answers PWD by unftp_quoted_path, FEAT by its own
+ * features, and USER and PASS by unftp_login_reply.
+ *
+ * It returns UNFTP_DONE; UNFTP_NO_ROOM, where *len is the room that is needed, at most 64; or
+ * UNFTP_INVALID_ARGUMENT exactly where the number is that of no event: neither from 1 to 44 nor
+ * from 102 to 106. out is as it was but at UNFTP_DONE. It takes no memory.
+ */
+enum unftp_result unftp_usual_reply(uint32_t event, const char *value, size_t value_len,
+                                    char *out, size_t out_room, size_t *len) UNFTP_NONNULL;
+
+/*
  * Finds the reply at the start of what a client has received (RFC 959, section 4.2). It returns
  * UNFTP_DONE with its code and how many bytes it takes, UNFTP_MORE where it is not complete, or
  * UNFTP_MALFORMED; both fields are then 0. A line ends at CR LF, and a bare LF belongs to it. It
@@ -724,6 +761,24 @@ enum unftp_login_step unftp_login_event(struct unftp_login *login, uint32_t even
  * ask for it, and the login is then as it was.
  */
 enum unftp_result unftp_login_answer(struct unftp_login *login, uint32_t accepted) UNFTP_NONNULL;
+
+/*
+ * Writes the reply at a step that unftp_login_event returned to the start of out, and *len is how
+ * many bytes it has (RFC 959, section 5.4). At UNFTP_LOGIN_ASK_ACCOUNTS accepted is what
+ * unftp_login_answer was told, and at other steps it is not read.
+ *
+ *     UNFTP_LOGIN_NEED_PASSWORD          331 User name okay, need password
+ *     UNFTP_LOGIN_ASK_ACCOUNTS           230 User logged in, proceed; with accepted 0
+ *                                        530 Login incorrect
+ *     UNFTP_LOGIN_NEED_NAME              503 Send USER first
+ *     UNFTP_LOGIN_NEED_LOGIN             530 Log in with USER and PASS
+ *
+ * It returns UNFTP_DONE; UNFTP_NO_ROOM, where *len is the room that is needed, at most 64; or
+ * UNFTP_INVALID_ARGUMENT for any other step, also for UNFTP_LOGIN_PASS_ON: the event is then
+ * answered as without a login. out is as it was but at UNFTP_DONE. It takes no memory.
+ */
+enum unftp_result unftp_login_reply(uint32_t step, uint32_t accepted,
+                                    char *out, size_t out_room, size_t *len) UNFTP_NONNULL;
 
 /*
  * Reads the address of a data connection from a text of this form, one of enum unftp_address_form.

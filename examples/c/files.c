@@ -29,6 +29,8 @@ enum {
     READ_MOST = 4096,
     AREA_ROOM = 3 * LINE_LIMIT,
     LOG_ROOM = 4 * LINE_LIMIT + 42,
+    /* what the replies of unftp_usual_reply and unftp_login_reply have at most */
+    USUAL_ROOM = 64,
     PIECE = 64 * 1024,
 
     /* an address, and the name of an interface for a link-local one */
@@ -238,32 +240,35 @@ static bool transfer_names(struct session *session, bool is_long)
     return is_open;
 }
 
-/* Answers a line of somebody who may give it; false where the session is over. */
-static bool answer_command(struct session *session, enum unftp_result command, const char *line,
-                           size_t len)
+/* Sends the usual reply to an event; false where the session is over. */
+static bool answer_usual(struct session *session, enum unftp_result event, const char *value,
+                         size_t value_len)
+{
+    char reply[USUAL_ROOM];
+    size_t len;
+
+    return unftp_usual_reply(event, value, value_len, reply, sizeof reply, &len) == UNFTP_DONE
+        && send_bytes(session->control, reply, len) && event != UNFTP_QUIT
+        && event != UNFTP_OUT_OF_MEMORY;
+}
+
+/* Answers an event of somebody who has logged in, or that needs no login; false where the session
+   is over. */
+static bool answer_event(struct session *session, enum unftp_result event, const char *line,
+                         const char *value, const struct unftp_line *found)
 {
     char text[DATA_TEXT_ROOM];
-    uint32_t code = data_port_answer(&session->data, command, line, len, text);
+    uint32_t code = data_port_answer(&session->data, event, line, found->used, text);
 
     if (code != 0)
         return answer(session, code, text);
-    switch (command) {
-    case UNFTP_TYPE: case UNFTP_NOOP: return answer(session, UNFTP_CODE_COMMAND_OKAY, "OK");
-    case UNFTP_SYST: return answer(session, UNFTP_CODE_SYSTEM_TYPE, "UNIX Type: L8");
+    switch (event) {
+    case UNFTP_TYPE: return answer(session, UNFTP_CODE_COMMAND_OKAY, "OK");
     case UNFTP_PWD: return answer(session, UNFTP_CODE_DIR_CREATED, "\"/\" is the directory");
-    case UNFTP_RETR: case UNFTP_STOR: return transfer_file(session, command, line, len);
+    case UNFTP_RETR: case UNFTP_STOR: return transfer_file(session, event, line, found->used);
     case UNFTP_LIST: return transfer_names(session, true);
     case UNFTP_NLST: return transfer_names(session, false);
-    case UNFTP_QUIT:
-        answer(session, UNFTP_CODE_CLOSING_CONTROL_CONNECTION, "Bye");
-        return false;
-    case UNFTP_INVALID_COMMAND: case UNFTP_INVALID_UTF8: case UNFTP_INVALID_EOL:
-    case UNFTP_LINE_TOO_LONG:
-        return answer(session, UNFTP_CODE_COMMAND_SYNTAX_ERROR, unftp_result_text(command));
-    case UNFTP_OUT_OF_MEMORY: case UNFTP_NO_ROOM: case UNFTP_INVALID_ARGUMENT:
-        answer(session, UNFTP_CODE_SERVICE_NOT_AVAILABLE, unftp_result_text(command));
-        return false;
-    default: return answer(session, UNFTP_CODE_COMMAND_NOT_IMPLEMENTED, "Not implemented");
+    default: return answer_usual(session, event, value, found->value_len);
     }
 }
 
@@ -274,28 +279,36 @@ static bool is_account(const struct session *session, const char *password, size
         && memcmp(password, "secret", 6) == 0;
 }
 
+/* Sends the reply at a step of a login; false where the session is over. */
+static bool answer_step(struct session *session, enum unftp_login_step step, bool is_right)
+{
+    char reply[USUAL_ROOM];
+    size_t len;
+
+    unftp_login_reply(step, is_right, reply, sizeof reply, &len);
+    return send_bytes(session->control, reply, len);
+}
+
 /* Answers a line; false where the session is over. */
-static bool answer_line(struct session *session, enum unftp_result command, const char *line,
+static bool answer_line(struct session *session, enum unftp_result event, const char *line,
                         const char *value, const struct unftp_line *found)
 {
-    switch (unftp_login_event(&session->login, (uint32_t)command)) {
-    case UNFTP_LOGIN_PASS_ON: return answer_command(session, command, line, found->used);
+    enum unftp_login_step step = unftp_login_event(&session->login, event);
+    bool is_right = false;
+
+    switch (step) {
+    case UNFTP_LOGIN_PASS_ON: return answer_event(session, event, line, value, found);
     case UNFTP_LOGIN_NEED_PASSWORD:
         session->name_len = found->value_len;
         memcpy(session->name, value, found->value_len);
-        return answer(session, UNFTP_CODE_NEED_PASSWORD, "Password required");
-    case UNFTP_LOGIN_ASK_ACCOUNTS: {
-        bool is_right = is_account(session, value, found->value_len);
-
+        break;
+    case UNFTP_LOGIN_ASK_ACCOUNTS:
+        is_right = is_account(session, value, found->value_len);
         unftp_login_answer(&session->login, is_right);
-        return is_right ? answer(session, UNFTP_CODE_USER_LOGGED_IN, "Logged in")
-                        : answer(session, UNFTP_CODE_NOT_LOGGED_IN, "Login incorrect");
+        break;
+    case UNFTP_LOGIN_NEED_NAME: case UNFTP_LOGIN_NEED_LOGIN: break;
     }
-    case UNFTP_LOGIN_NEED_NAME:
-        return answer(session, UNFTP_CODE_BAD_COMMAND_SEQUENCE, "USER comes first");
-    case UNFTP_LOGIN_NEED_LOGIN: break;
-    }
-    return answer(session, UNFTP_CODE_NOT_LOGGED_IN, "Log in with USER and PASS");
+    return answer_step(session, step, is_right);
 }
 
 /* Logs what may be shown of a line. */

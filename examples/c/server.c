@@ -51,6 +51,9 @@ enum {
     TEXT_ROOM = sizeof "SITE MD5 : not implemented" + AREA_ROOM,
     REPLY_ROOM = TEXT_ROOM + 6,
 
+    /* what unftp_usual_reply and unftp_login_reply need at most */
+    USUAL_ROOM = 64,
+
     /* how many bytes a client may send once its session has ended */
     DROPPED_MOST = 1024 * 1024,
 
@@ -274,31 +277,25 @@ static bool answer_site(struct client *client, const struct command *command)
     return answer_not_implemented(client, UNFTP_SITE, command);
 }
 
-static bool answer_quit(struct client *client)
+/* Sends the usual reply to an event whose value it doesn't depend on; false where the session is
+   over. */
+static bool answer_usual(struct client *client, enum unftp_result result)
 {
-    send_text(client, UNFTP_CODE_CLOSING_CONTROL_CONNECTION, "Bye");
-    return false;
+    char reply[USUAL_ROOM];
+    size_t len;
+
+    if (unftp_usual_reply(result, "", 0, reply, sizeof reply, &len) == UNFTP_DONE)
+        return send_bytes(client, reply, len);
+    /* the area has room for a line within the limit, and the connection is kept */
+    fprintf(stderr, "server: unftp_next: %s\n", unftp_result_text(result));
+    abort();
 }
 
-/* Answers what is no command; false where the session is over. */
+/* Answers what is no command; false where the session is over. Where memory has run out, the line
+   is not taken, and would be answered again. */
 static bool answer_refusal(struct client *client, enum unftp_result result)
 {
-    switch (result) {
-    case UNFTP_INVALID_COMMAND:
-        return send_text(client, UNFTP_CODE_COMMAND_SYNTAX_ERROR, "Invalid command");
-    case UNFTP_INVALID_UTF8:
-        return send_text(client, UNFTP_CODE_COMMAND_SYNTAX_ERROR,
-                         "Non-UTF8 character while parsing");
-    case UNFTP_INVALID_EOL:
-        return send_text(client, UNFTP_CODE_COMMAND_SYNTAX_ERROR, "Invalid end-of-line");
-    case UNFTP_LINE_TOO_LONG:
-        return send_text(client, UNFTP_CODE_COMMAND_SYNTAX_ERROR, "Line too long");
-    case UNFTP_OUT_OF_MEMORY:
-        return end_session(client, "421 Out of memory\r\n");
-    default: /* the area has room for a line within the limit, and the connection is kept */
-        fprintf(stderr, "server: unftp_next: %s\n", unftp_result_text(result));
-        abort();
-    }
+    return answer_usual(client, result) && result != UNFTP_OUT_OF_MEMORY;
 }
 
 /* Answers a line as if there were no login; false where the session is over. A password is in no
@@ -312,18 +309,16 @@ static bool answer_command(struct client *client, enum unftp_result result,
     static const char directory[] = "\"/\" is the current directory";
 
     switch (result) {
-    case UNFTP_ACCT:
-        return send_text(client, UNFTP_CODE_COMMAND_OKAY_NOT_IMPLEMENTED, "No account needed");
-    case UNFTP_SYST: return send_text(client, UNFTP_CODE_SYSTEM_TYPE, "UNIX Type: L8");
-    case UNFTP_TYPE: case UNFTP_NOOP: return send_text(client, UNFTP_CODE_COMMAND_OKAY, "OK");
+    case UNFTP_ACCT: case UNFTP_SYST: case UNFTP_NOOP: return answer_usual(client, result);
+    case UNFTP_TYPE: return send_text(client, UNFTP_CODE_COMMAND_OKAY, "OK");
     case UNFTP_FEAT: return send_text(client, UNFTP_CODE_SYSTEM_STATUS, features);
     case UNFTP_HELP: return send_text(client, UNFTP_CODE_HELP_MESSAGE, help);
     case UNFTP_PWD: return send_text(client, UNFTP_CODE_DIR_CREATED, directory);
     case UNFTP_SITE: return answer_site(client, command);
-    case UNFTP_QUIT: return answer_quit(client);
-    case UNFTP_USER: case UNFTP_PASS: case UNFTP_STAT: case UNFTP_STRU: case UNFTP_MODE: case UNFTP_PASV: case UNFTP_EPSV:
-    case UNFTP_PORT: case UNFTP_RETR: case UNFTP_STOR: case UNFTP_APPE: case UNFTP_LIST:
-    case UNFTP_NLST: case UNFTP_MLST: case UNFTP_MLSD: case UNFTP_CWD: case UNFTP_CDUP:
+    case UNFTP_QUIT: answer_usual(client, result); return false;
+    case UNFTP_USER: case UNFTP_PASS: case UNFTP_STAT: case UNFTP_STRU: case UNFTP_MODE:
+    case UNFTP_PASV: case UNFTP_EPSV: case UNFTP_PORT: case UNFTP_RETR: case UNFTP_STOR:
+    case UNFTP_APPE: case UNFTP_LIST: case UNFTP_NLST: case UNFTP_MLST: case UNFTP_MLSD: case UNFTP_CWD: case UNFTP_CDUP:
     case UNFTP_OPTS: case UNFTP_DELE: case UNFTP_RMD: case UNFTP_MKD: case UNFTP_ALLO:
     case UNFTP_ABOR: case UNFTP_STOU: case UNFTP_RNFR: case UNFTP_RNTO: case UNFTP_AUTH:
     case UNFTP_CCC: case UNFTP_PBSZ: case UNFTP_PROT: case UNFTP_SIZE: case UNFTP_REST:
@@ -347,32 +342,36 @@ static bool is_account(const struct client *client, const char *password, size_t
         && len == sizeof secret - 1 && memcmp(password, secret, sizeof secret - 1) == 0;
 }
 
-/* Answers PASS after USER: 230 or 530. */
-static bool answer_password(struct client *client, const struct command *command)
+/* Sends the reply at a step of a login; false where the session is over. */
+static bool answer_step(struct client *client, enum unftp_login_step step, bool is_right)
 {
-    bool is_right = is_account(client, value_of(command), command->line.value_len);
+    char reply[USUAL_ROOM];
+    size_t len;
 
-    unftp_login_answer(&client->login, is_right);
-    return is_right ? send_text(client, UNFTP_CODE_USER_LOGGED_IN, "Logged in")
-                    : send_text(client, UNFTP_CODE_NOT_LOGGED_IN, "Login incorrect");
+    unftp_login_reply(step, is_right, reply, sizeof reply, &len);
+    return send_bytes(client, reply, len);
 }
 
 /* Answers a line; false where the session is over. What needs a login is answered 530 before one. */
 static bool answer_line(struct client *client, enum unftp_result result,
                         const struct command *command)
 {
-    switch (unftp_login_event(&client->login, (uint32_t)result)) {
+    enum unftp_login_step step = unftp_login_event(&client->login, result);
+    bool is_right = false;
+
+    switch (step) {
     case UNFTP_LOGIN_PASS_ON: return answer_command(client, result, command);
     case UNFTP_LOGIN_NEED_PASSWORD:
         client->name_len = command->line.value_len;
         memcpy(client->name, value_of(command), client->name_len);
-        return send_text(client, UNFTP_CODE_NEED_PASSWORD, "Password required");
-    case UNFTP_LOGIN_ASK_ACCOUNTS: return answer_password(client, command);
-    case UNFTP_LOGIN_NEED_NAME:
-        return send_text(client, UNFTP_CODE_BAD_COMMAND_SEQUENCE, "USER comes first");
-    case UNFTP_LOGIN_NEED_LOGIN: break;
+        break;
+    case UNFTP_LOGIN_ASK_ACCOUNTS:
+        is_right = is_account(client, value_of(command), command->line.value_len);
+        unftp_login_answer(&client->login, is_right);
+        break;
+    case UNFTP_LOGIN_NEED_NAME: case UNFTP_LOGIN_NEED_LOGIN: break;
     }
-    return send_text(client, UNFTP_CODE_NOT_LOGGED_IN, "Log in with USER and PASS");
+    return answer_step(client, step, is_right);
 }
 
 /* Takes the next line of the pending bytes: what unftp_next returns. */

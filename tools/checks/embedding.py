@@ -55,13 +55,13 @@ TOO_LONG = b"500 Line too long\r\n"
 OUT_OF_MEMORY = b"421 Out of memory\r\n"
 
 REFUSALS = {
-    "InvalidCommand": b"500 Invalid command\r\n",
-    "InvalidUtf8": b"500 Non-UTF8 character while parsing\r\n",
-    "InvalidEol": b"500 Invalid end-of-line\r\n",
+    "InvalidCommand": b"501 Invalid parameter\r\n",
+    "InvalidUtf8": b"500 The command is not UTF-8\r\n",
+    "InvalidEol": b"500 Invalid line ending\r\n",
 }
 
 REPLIES = {
-    "Acct": b"202 No account needed\r\n",
+    "Acct": b"202 No account is needed\r\n",
     "Syst": b"215 UNIX Type: L8\r\n",
     "TypeCode": b"200 OK\r\n",
     "Noop": b"200 OK\r\n",
@@ -120,7 +120,7 @@ def reply_to(answer):
 # what needs no login (docs/TOPICS.md)
 WITHOUT_LOGIN = {"Quit", "Auth", "Pbsz", "Prot", "Feat", "Help", "Noop", "Syst"}
 ACCOUNT = {"User": b"anna", "Pass": b"secret"}
-NEED_PASSWORD, LOGGED_IN = b"331 Password required\r\n", b"230 Logged in\r\n"
+NEED_PASSWORD, LOGGED_IN = b"331 User name okay, need password\r\n", b"230 User logged in, proceed\r\n"
 
 
 class Replies:
@@ -146,7 +146,7 @@ class Replies:
     def to_password(self, password):
         name, self.name = self.name, None
         if name is None:
-            return b"503 USER comes first\r\n"
+            return b"503 Send USER first\r\n"
         self.is_member = (name, password) == (ACCOUNT["User"], ACCOUNT["Pass"])
         return LOGGED_IN if self.is_member else b"530 Login incorrect\r\n"
 

@@ -9,6 +9,7 @@ pub mod FoundRoomLemmas
 pub mod LogRoomLemmas
 pub mod LineLemmas
 pub mod NextLemmas
+pub mod NumberedReplyLemmas
 pub mod ParameterRoomLemmas
 pub mod PlaceLemmas
 mod ReplyLemmas

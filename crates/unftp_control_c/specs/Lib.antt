@@ -12,4 +12,5 @@ pub mod LogLines
 pub mod ExchangeLines
 pub mod Clients
 pub mod Logins
+pub mod NumberedReplies
 pub mod Addresses

@@ -19,6 +19,7 @@ pub mod addresses;
 pub mod calls;
 pub mod parameters;
 pub mod sessions;
+pub mod usual;
 
 /// Complete lines. `a_call` has the pending bytes, the offset, whether bytes were dropped, the
 /// limit and the area; `leaving` the result, how many bytes are used, the offset, whether bytes

@@ -35,6 +35,8 @@ ghost use Rattle.unftp_control_c.specs.Taking.{AreCallerSteps, Caller, CallerSte
 ghost use Rattle.unftp_control_c.specs.declared.client.Client.{Client as RustClient};
 ghost use Rattle.unftp_control_c.specs.declared.status.Status.TheVariants.{LineTooLong, More, NoRoom, OutOfMemory};
 
+pub mod usual;
+
 /// Whatever a caller receives, and whenever it calls `unftp_next`, with whatever areas: its calls
 /// give the events of what it received, in order, each by its number, name and value.
 pub fn calls_take_events()

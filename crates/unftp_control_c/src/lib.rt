@@ -17,4 +17,5 @@ mod next;
 mod parameter;
 mod reply;
 mod status;
+mod usual;
 mod version;

@@ -63,7 +63,7 @@ fn write_fitting_lines(code: u32, text: &[u8], area: &mut [u8], len: &mut usize)
 
 /// Writes the reply of one line to the start of the area, where it has room for it, and reports how
 /// long it is: the number of what has come of it.
-fn write_line(code: u32, text: &[u8], area: &mut [u8], len: &mut usize) -> u32
+pub fn write_line(code: u32, text: &[u8], area: &mut [u8], len: &mut usize) -> u32
     ensures { record { result = result; area = area.new; text_length = len.new }
         ≡ filled (encoded (CodeAndMsg code text.now)) area.old }
 {

@@ -3,8 +3,8 @@
  * it, as four bytes with the least first. Checks what the header says of rooms and lengths: each
  * call with no room at all, with one byte less than it asks for, and with enough; the bounds on
  * what it asks for; what it leaves as it was; where a value is; and that what is written is read
- * back. Checks by tables what it says of names and values, replies, log lines, clients, logins and
- * addresses. Each area has no byte more than its call is told, so that valgrind finds what is
+ * back. Checks by tables what it says of names and values, replies, also the usual ones, log lines,
+ * clients, logins and addresses. Each area has no byte more than its call is told, so that valgrind finds what is
  * written past it. Prints how many inputs there were, and of what kind.
  */
 #include <unftp_control.h>
@@ -585,6 +585,92 @@ static void check_quoted(struct bytes path)
     wants(end == room - 1, "and nothing more");
     free_area(less);
     free_area(out);
+}
+
+/* A call that writes the reply to a number, and to a value or to what the accounts say. */
+typedef enum unftp_result writes_reply(uint32_t number, const char *value, char *out, size_t room,
+                                       size_t *len);
+
+static enum unftp_result write_usual(uint32_t number, const char *value, char *out, size_t room,
+                                     size_t *len)
+{
+    return unftp_usual_reply(number, value, strlen(value), out, room, len);
+}
+
+static enum unftp_result write_login(uint32_t number, const char *value, char *out, size_t room,
+                                     size_t *len)
+{
+    return unftp_login_reply(number, (uint32_t)strlen(value), out, room, len);
+}
+
+/* Writes a reply with just enough room, and with less. It has this code and ends as a line; where no
+   reply is wanted, the number is an invalid argument. */
+static void check_reply_to(writes_reply *write, uint32_t number, const char *value,
+                           const char *wanted)
+{
+    struct bytes none = area_of(0), less, out;
+    size_t room, again;
+    enum unftp_result result = write(number, value, none.at, 0, &room);
+
+    free_area(none);
+    if (wanted == NULL) {
+        wants(result == UNFTP_INVALID_ARGUMENT && room == 0, "a number that has no reply");
+        return;
+    }
+    wants(result == UNFTP_NO_ROOM && room <= 64, "the room of a reply to a number");
+    less = area_of(room - 1);
+    wants(write(number, value, less.at, room - 1, &again) == UNFTP_NO_ROOM && again == room
+              && is_filling(less),
+          "a reply to a number needs this room");
+    out = area_of(room);
+    wants(write(number, value, out.at, room, &again) == UNFTP_DONE && again == room
+              && begins_with(out, wanted) && memcmp(out.at + room - 2, "\r\n", 2) == 0
+              && memchr(out.at, '\n', room) == out.at + room - 1,
+          "a reply to a number is one line with this code");
+    free_area(less);
+    free_area(out);
+}
+
+/* The replies that RFC 959 has for an event that a server doesn't serve (sections 4.2.2 and 5.4), and
+   for the steps of a login. No number but those of events has a reply. */
+static void check_usual_replies(void)
+{
+    static const struct {
+        uint32_t event;
+        const char *value, *reply;
+    } events[] = {
+        {UNFTP_DONE, "", NULL}, {UNFTP_ACCT, "a", "202 "}, {UNFTP_SYST, "", "215 UNIX Type: L8\r\n"},
+        {UNFTP_TYPE, "", "504 "}, {UNFTP_STRU, "F", "200 "}, {UNFTP_STRU, "R", "504 "},
+        {UNFTP_STRU, "P", "504 "}, {UNFTP_STRU, "FF", "504 "}, {UNFTP_MODE, "S", "200 "},
+        {UNFTP_MODE, "B", "504 "}, {UNFTP_MODE, "C", "504 "}, {UNFTP_MODE, "", "504 "},
+        {UNFTP_HELP, "", "214 "}, {UNFTP_NOOP, "", "200 "}, {UNFTP_OPTS, "UTF8 ON", "200 "},
+        {UNFTP_OPTS, "UTF8 OFF", "504 "}, {UNFTP_QUIT, "", "221 "}, {UNFTP_ALLO, "", "202 "},
+        {UNFTP_INVALID_COMMAND, "", "501 "}, {UNFTP_INVALID_UTF8, "", "500 "},
+        {UNFTP_INVALID_EOL, "", "500 "}, {UNFTP_LINE_TOO_LONG, "", "500 "},
+        {UNFTP_OUT_OF_MEMORY, "", "421 "},
+    };
+    static const struct {
+        uint32_t step;
+        const char *says, *reply;
+    } steps[] = {
+        {UNFTP_LOGIN_PASS_ON, "", NULL}, {UNFTP_LOGIN_NEED_PASSWORD, "", "331 "},
+        {UNFTP_LOGIN_ASK_ACCOUNTS, "", "530 "}, {UNFTP_LOGIN_ASK_ACCOUNTS, "y", "230 "},
+        {UNFTP_LOGIN_ASK_ACCOUNTS, "yes", "230 "}, {UNFTP_LOGIN_NEED_NAME, "y", "503 "},
+        {UNFTP_LOGIN_NEED_LOGIN, "", "530 "}, {5, "", NULL}, {UINT32_MAX, "y", NULL},
+    };
+    bool is_special[130] = {false};
+
+    for (size_t at = 0; at < sizeof events / sizeof events[0]; at++) {
+        check_reply_to(write_usual, events[at].event, events[at].value, events[at].reply);
+        is_special[events[at].event] = true;
+    }
+    for (uint32_t number = 0; number < 130; number++) {
+        if (!is_special[number])
+            check_reply_to(write_usual, number, "F", number <= UNFTP_OTHER ? "502 " : NULL);
+    }
+    check_reply_to(write_usual, UINT32_MAX, "", NULL);
+    for (size_t at = 0; at < sizeof steps / sizeof steps[0]; at++)
+        check_reply_to(write_login, steps[at].step, steps[at].says, steps[at].reply);
 }
 
 /* A CR directly before a line feed belongs to the line's end, and any other is written. What is
@@ -1384,6 +1470,7 @@ int main(void)
     current = &input;
     check_arguments();
     check_texts();
+    check_usual_replies();
     check_places();
     check_log_lines();
     check_replies();

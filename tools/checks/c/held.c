@@ -100,6 +100,10 @@ static void make_calls(char byte, size_t count)
     expect("unftp_is_clear", size, 0);
     unftp_quoted_path(text, count, out, sizeof out, &len);
     expect("unftp_quoted_path", count, 0);
+    unftp_usual_reply(UNFTP_OPTS, text, count, out, sizeof out, &len);
+    expect("unftp_usual_reply", count, 0);
+    unftp_login_reply(UNFTP_LOGIN_NEED_NAME, 0, out, sizeof out, &len);
+    expect("unftp_login_reply", count, 0);
     unftp_reply(211, text, count, out, 0, &len);
     expect("unftp_reply without room", count, 0);
     unftp_reply(211, text, count, out, sizeof out, &len);

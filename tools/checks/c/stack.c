@@ -32,6 +32,7 @@ enum {
     LIST_PATH,
     REPLY,
     QUOTED_PATH,
+    USUAL_REPLY,
     FRONT_REPLY,
     REPLY_LINES,
     CANONICAL,
@@ -47,6 +48,7 @@ enum {
     CLIENT_MAY_BEGIN_TLS,
     LOGIN_EVENT,
     LOGIN_ANSWER,
+    LOGIN_REPLY,
     READ_ADDRESS,
     WRITE_ADDRESS,
     VERSION,
@@ -64,6 +66,7 @@ static const char *const names[CALLS] = {
     "unftp_list_path",
     "unftp_reply",
     "unftp_quoted_path",
+    "unftp_usual_reply",
     "unftp_front_reply",
     "unftp_reply_lines",
     "unftp_canonical",
@@ -79,6 +82,7 @@ static const char *const names[CALLS] = {
     "unftp_client_may_begin_tls",
     "unftp_login_event",
     "unftp_login_answer",
+    "unftp_login_reply",
     "unftp_read_address",
     "unftp_write_address",
     "unftp_version",
@@ -120,7 +124,8 @@ static void call_with_state(int name, struct bytes input, size_t room)
     case CLIENT_OWED: unftp_client_owed(&client); break;
     case CLIENT_MAY_BEGIN_TLS: unftp_client_may_begin_tls(&client, room); break;
     case LOGIN_EVENT: unftp_login_event(&login, turn % 128); break;
-    default: unftp_login_answer(&login, turn % 2); break;
+    case LOGIN_ANSWER: unftp_login_answer(&login, turn % 2); break;
+    default: unftp_login_reply(turn % 8, turn % 2, area.at, room, &len); break;
     }
 }
 
@@ -150,6 +155,9 @@ static void call(int name, struct bytes input, size_t room)
     case LIST_PATH: unftp_list_path(input.at, input.len, area.at, room, &len); break;
     case REPLY: unftp_reply(299, input.at, input.len, area.at, room, &len); break;
     case QUOTED_PATH: unftp_quoted_path(input.at, input.len, area.at, room, &len); break;
+    case USUAL_REPLY:
+        unftp_usual_reply((uint32_t)inputs % 128, input.at, input.len, area.at, room, &len);
+        break;
     case FRONT_REPLY: unftp_front_reply(input.at, input.len, &reply); break;
     case REPLY_LINES: unftp_reply_lines(input.at, input.len, area.at, room, &len); break;
     case CANONICAL: unftp_canonical(input.at, input.len, area.at, room, &len); break;
