@@ -1,4 +1,4 @@
-//! A server that knows NOOP and QUIT, under `Framed`: `framed [PORT]`. It bounds neither the time
+//! A server that knows PWD, and gives each other event its usual reply, under `Framed`: `framed [PORT]`. It bounds neither the time
 //! of a client nor their number; `server.rs` does.
 use futures_util::{SinkExt, StreamExt};
 use std::time::Duration;
@@ -11,15 +11,14 @@ async fn serve(stream: TcpStream) -> Result<(), CodecError> {
     let mut client = Framed::new(stream, FtpCodec::new());
     client.send(Reply::new(ReplyCode::SERVICE_READY, "Ready")).await?;
     while let Some(event) = client.next().await {
-        let (code, text) = match event? {
-            Event::Command(Command::Noop) => (ReplyCode::COMMAND_OKAY, "OK".to_string()),
+        let reply = match event? {
             Event::Command(Command::Quit) => break,
-            Event::Command(_) => (ReplyCode::COMMAND_NOT_IMPLEMENTED, "Not implemented".into()),
-            Event::Refused(refusal) => (ReplyCode::COMMAND_SYNTAX_ERROR, refusal.to_string()),
+            Event::Command(Command::Pwd) => Reply::directory(b"/")?,
+            event => event.usual_reply(),
         };
-        client.send(Reply::new(code, text)).await?;
+        client.send(reply).await?;
     }
-    client.send(Reply::new(ReplyCode::CLOSING_CONTROL_CONNECTION, "Bye")).await
+    client.send(Command::Quit.usual_reply()).await
 }
 
 #[tokio::main]

@@ -19,21 +19,19 @@ const LINGER: Duration = Duration::from_secs(5);
 
 /// The reply to an event, where the last reply had this code.
 fn answer(event: Event, last: Code, is_user: bool) -> Reply {
-    let command = match event {
-        Event::Command(command) => command,
-        Event::Refused(why) => return Reply::new(Code::COMMAND_SYNTAX_ERROR, why.to_string()),
-    };
-    let (code, text) = match command {
-        Command::User { .. } => (Code::NEED_PASSWORD, "Password required"),
-        Command::Pass { .. } if last == Code::NEED_PASSWORD => (Code::USER_LOGGED_IN, "Logged in"),
-        Command::Pass { .. } => (Code::BAD_COMMAND_SEQUENCE, "USER comes first"),
-        Command::Feat => (Code::SYSTEM_STATUS, "Features:\n UTF8\nEnd"),
-        Command::Quit => (Code::CLOSING_CONTROL_CONNECTION, "Bye"),
-        Command::Syst => (Code::SYSTEM_TYPE, "UNIX Type: L8"),
-        Command::Pwd | Command::Type if !is_user => (Code::NOT_LOGGED_IN, "Not logged in"),
-        Command::Pwd => (Code::DIR_CREATED, "\"/\" is the directory"),
-        Command::Type | Command::Noop => (Code::COMMAND_OKAY, "OK"),
-        _ => (Code::COMMAND_NOT_IMPLEMENTED, "Not implemented"),
+    let (code, text) = match event {
+        Event::Command(Command::User { .. }) => (Code::NEED_PASSWORD, "Password required"),
+        Event::Command(Command::Pass { .. }) if last == Code::NEED_PASSWORD => {
+            (Code::USER_LOGGED_IN, "Logged in")
+        }
+        Event::Command(Command::Pass { .. }) => (Code::BAD_COMMAND_SEQUENCE, "USER comes first"),
+        Event::Command(Command::Feat) => return Reply::features(["UTF8"]),
+        Event::Command(Command::Pwd | Command::Type) if !is_user => {
+            (Code::NOT_LOGGED_IN, "Not logged in")
+        }
+        Event::Command(Command::Pwd) => (Code::DIR_CREATED, "\"/\" is the directory"),
+        Event::Command(Command::Type) => (Code::COMMAND_OKAY, "OK"),
+        event => return event.usual_reply(),
     };
     Reply::new(code, text)
 }

@@ -403,7 +403,7 @@ impl Command<'_> {
     }
 
     /// The value that it holds.
-    fn value(&self) -> Option<Cow<'_, [u8]>> {
+    pub(crate) fn value(&self) -> Option<Cow<'_, [u8]>> {
         match self {
             Command::Pbsz => Some(Cow::Borrowed(&b"0"[..])),
             command => for_each_command!(value!(command)),

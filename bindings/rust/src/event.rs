@@ -153,7 +153,7 @@ pub enum Refusal {
 }
 
 impl Refusal {
-    fn number(self) -> u32 {
+    pub(crate) fn number(self) -> u32 {
         match self {
             Refusal::InvalidCommand => ffi::INVALID_COMMAND,
             Refusal::InvalidUtf8 => ffi::INVALID_UTF8,
@@ -173,7 +173,7 @@ impl Refusal {
     }
 }
 
-/// A text that a server may send as it is, after 500.
+/// A text for people. [`Refusal::reply`] is what a server sends.
 impl Display for Refusal {
     fn fmt(&self, f: &mut Formatter<'_>) -> fmt::Result {
         f.write_str(match self {

@@ -42,10 +42,8 @@ pub(crate) const TO_NOTHING: u32 = 2;
 
 /// What `unftp_login_event` returns.
 pub(crate) const LOGIN_PASS_ON: u32 = 0;
-pub(crate) const LOGIN_NEED_PASSWORD: u32 = 1;
 pub(crate) const LOGIN_ASK_ACCOUNTS: u32 = 2;
 pub(crate) const LOGIN_NEED_NAME: u32 = 3;
-pub(crate) const LOGIN_NEED_LOGIN: u32 = 4;
 
 /// What `unftp_read_address` and `unftp_write_address` are told of a text.
 pub(crate) const ADDRESS_PORT: u32 = 0;
@@ -174,6 +172,16 @@ extern "C" {
         len: *mut usize,
     ) -> u32;
 
+    #[cfg_attr(not(feature = "system"), link_name = own_name!("usual_reply"))]
+    fn unftp_usual_reply(
+        event: u32,
+        value: *const u8,
+        value_len: usize,
+        out: *mut u8,
+        out_room: usize,
+        len: *mut usize,
+    ) -> u32;
+
     #[cfg_attr(not(feature = "system"), link_name = own_name!("front_reply"))]
     fn unftp_front_reply(bytes: *const u8, bytes_len: usize, reply: *mut FoundReply) -> u32;
 
@@ -249,6 +257,15 @@ extern "C" {
 
     #[cfg_attr(not(feature = "system"), link_name = own_name!("login_answer"))]
     fn unftp_login_answer(login: *mut Login, accepted: u32) -> u32;
+
+    #[cfg_attr(not(feature = "system"), link_name = own_name!("login_reply"))]
+    fn unftp_login_reply(
+        step: u32,
+        accepted: u32,
+        out: *mut u8,
+        out_room: usize,
+        len: *mut usize,
+    ) -> u32;
 
     #[cfg_attr(not(feature = "system"), link_name = own_name!("read_address"))]
     fn unftp_read_address(
@@ -497,6 +514,18 @@ pub(crate) fn quoted_path(path: &[u8], out: &mut [u8]) -> (u32, usize) {
     (status, len)
 }
 
+/// Calls `unftp_usual_reply`: what it returns, and the length.
+pub(crate) fn usual_reply(event: u32, value: &[u8], out: &mut [u8]) -> (u32, usize) {
+    check_version();
+    let mut len = 0;
+    // SAFETY: no pointer is null, since each is of a reference, and each length is that of the
+    // slice beside it. Nothing overlaps: `out` is mutably borrowed, and `len` is a variable here.
+    let status = unsafe {
+        unftp_usual_reply(event, value.as_ptr(), value.len(), out.as_mut_ptr(), out.len(), &mut len)
+    };
+    (status, len)
+}
+
 /// Calls `unftp_front_reply`: what it returns, and the reply.
 pub(crate) fn front_reply(bytes: &[u8]) -> (u32, FoundReply) {
     check_version();
@@ -641,6 +670,18 @@ pub(crate) fn login_answer(login: &mut Login, accepted: bool) -> u32 {
     check_version();
     // SAFETY: the pointer is of a mutable reference, and the struct has the header's form.
     unsafe { unftp_login_answer(login, u32::from(accepted)) }
+}
+
+/// Calls `unftp_login_reply`: what it returns, and the length.
+pub(crate) fn login_reply(step: u32, accepted: bool, out: &mut [u8]) -> (u32, usize) {
+    check_version();
+    let mut len = 0;
+    // SAFETY: no pointer is null, since each is of a reference, and the length is that of the slice.
+    // Nothing overlaps: `out` is mutably borrowed, and `len` is a variable here.
+    let status = unsafe {
+        unftp_login_reply(step, u32::from(accepted), out.as_mut_ptr(), out.len(), &mut len)
+    };
+    (status, len)
 }
 
 /// Calls `unftp_read_address`: what it returns, and the address.

@@ -37,7 +37,8 @@
     doc = "With the feature `tokio-util`, `FtpCodec` does both for tokio, under `Framed`."
 )]
 //!
-//! A [`Login`] says which events need a login, and answers those that come without one. [`log_line`]
+//! For an event that a server doesn't serve, [`Event::usual_reply`] is what it answers. A [`Login`]
+//! says which events need a login, and answers those that come without one. [`log_line`]
 //! is what a log may show of a line: nothing of what PASS and ACCT have, and whether it hides a part.
 //! [`log_exchange`] is what it may show of a line with its replies.
 //!
@@ -148,6 +149,7 @@ mod reply_decoder;
 #[cfg(feature = "serde")]
 mod serialize;
 mod shown;
+mod usual;
 mod version;
 
 pub use crate::bytes::{Password, RawBytes};

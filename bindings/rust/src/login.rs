@@ -1,9 +1,9 @@
 use crate::bytes::RawBytes;
-use crate::code::ReplyCode;
 use crate::command::Command;
 use crate::event::Event;
 use crate::ffi;
 use crate::reply::Reply;
+use crate::usual::login_reply;
 use std::fmt::{self, Debug, Formatter};
 
 /// What a server that wants a login does with an event.
@@ -84,14 +84,7 @@ impl Login {
             (ffi::LOGIN_ASK_ACCOUNTS, Event::Command(Command::Pass { password })) => {
                 LoginStep::AskAccounts { name: &self.name, password: password.as_bytes().into() }
             }
-            (ffi::LOGIN_NEED_PASSWORD, _) => {
-                answer(ReplyCode::NEED_PASSWORD, "User name okay, need password")
-            }
-            (ffi::LOGIN_NEED_NAME, _) => answer(ReplyCode::BAD_COMMAND_SEQUENCE, "Send USER first"),
-            (ffi::LOGIN_NEED_LOGIN, _) => {
-                answer(ReplyCode::NOT_LOGGED_IN, "Log in with USER and PASS")
-            }
-            (step, _) => unreachable!("`step_number` of unftp_login_event gives no {step}"),
+            (step, _) => LoginStep::Answer(login_reply(step, false)),
         }
     }
 
@@ -99,11 +92,11 @@ impl Login {
     /// PASS: 230 or 530. Where the last event didn't ask for it, nobody is logged in by this, and
     /// the reply is 503.
     pub fn answer(&mut self, accepted: bool) -> Reply {
-        match (ffi::login_answer(&mut self.login, accepted), accepted) {
-            (ffi::DONE, true) => Reply::new(ReplyCode::USER_LOGGED_IN, "User logged in, proceed"),
-            (ffi::DONE, false) => Reply::new(ReplyCode::NOT_LOGGED_IN, "Login incorrect"),
-            _ => Reply::new(ReplyCode::BAD_COMMAND_SEQUENCE, "Send USER first"),
-        }
+        let step = match ffi::login_answer(&mut self.login, accepted) {
+            ffi::DONE => ffi::LOGIN_ASK_ACCOUNTS,
+            _ => ffi::LOGIN_NEED_NAME,
+        };
+        login_reply(step, accepted)
     }
 
     /// The name of who is logged in.
@@ -117,8 +110,4 @@ impl Debug for Login {
     fn fmt(&self, f: &mut Formatter<'_>) -> fmt::Result {
         f.debug_struct("Login").field("logged_in", &self.name().is_some()).finish_non_exhaustive()
     }
-}
-
-fn answer(code: ReplyCode, text: &'static str) -> LoginStep<'static> {
-    LoginStep::Answer(Reply::new(code, text))
 }

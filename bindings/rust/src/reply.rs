@@ -73,6 +73,43 @@ impl Reply {
         Reply::of_bytes(code, text)
     }
 
+    /// The reply to FEAT of a server with these features, in their order, or of one without any (RFC
+    /// 2389, section 3.2).
+    ///
+    /// ```
+    /// use unftp_control::Reply;
+    ///
+    /// let reply = Reply::features(["REST STREAM", "UTF8"]);
+    /// assert_eq!(reply.to_bytes()?, b"211-Features:\r\n REST STREAM\r\n UTF8\r\n211 End\r\n");
+    /// # Ok::<(), unftp_control::Error>(())
+    /// ```
+    pub fn features<F: AsRef<str>>(features: impl IntoIterator<Item = F>) -> Reply {
+        let listed = features.into_iter().map(|feature| format!("\n {}", feature.as_ref()));
+        let listed: String = listed.collect();
+        let text = match listed.is_empty() {
+            true => "No features".to_string(),
+            false => format!("Features:{listed}\nEnd"),
+        };
+        Reply::new(ReplyCode::SYSTEM_STATUS, text)
+    }
+
+    /// The reply to PWD where this is the working directory, and to MKD where it is the one that was
+    /// made: the path as [`quoted_path`] has it (RFC 959, section 5.4).
+    ///
+    /// ```
+    /// use unftp_control::Reply;
+    ///
+    /// assert_eq!(Reply::directory(b"/a\"b")?.to_bytes()?, b"257 \"/a\"\"b\"\r\n");
+    /// # Ok::<(), unftp_control::Error>(())
+    /// ```
+    ///
+    /// # Errors
+    ///
+    /// [`Error::OutOfMemory`].
+    pub fn directory(path: &[u8]) -> Result<Reply, Error> {
+        Ok(Reply::of_bytes(ReplyCode::DIR_CREATED, quoted_path(path)?))
+    }
+
     /// The reply to PASV of a server that listens at this address (RFC 959, section 4.1.2).
     ///
     /// ```

@@ -244,6 +244,56 @@ fn a_path_is_quoted() -> Result<(), Error> {
     Ok(())
 }
 
+// the codes of RFC 959, sections 4.2.2 and 5.4, and of RFC 2228, section 3
+#[test]
+fn each_event_has_a_usual_reply() -> Result<(), Error> {
+    let codes: [(&[u8], u16); 26] = [
+        (b"USER anna", 502),
+        (b"ACCT a", 202),
+        (b"SYST", 215),
+        (b"TYPE I", 504),
+        (b"STRU F", 200),
+        (b"STRU R", 504),
+        (b"STRU P", 504),
+        (b"MODE S", 200),
+        (b"MODE B", 504),
+        (b"MODE C", 504),
+        (b"HELP", 214),
+        (b"NOOP", 200),
+        (b"PASV", 502),
+        (b"OPTS UTF8 ON", 200),
+        (b"opts utf8 off", 504),
+        (b"BYE", 221),
+        (b"ALLO 5", 202),
+        (b"AUTH TLS", 502),
+        (b"PBSZ 0", 502),
+        (b"PROT P", 502),
+        (b"CCC", 502),
+        (b"SITE CHMOD 644 a", 502),
+        (b"EPRT |1|127.0.0.1|1|", 502),
+        (b"RETR", 501),
+        (b"\xffNOOP", 500),
+        (b"RETR a\rb", 500),
+    ];
+    for (line, code) in codes {
+        let mut pending = Pending::new();
+        pending.push(line)?;
+        pending.push(b"\r\n")?;
+        let event = pending.next_event()?.expect("it is complete");
+        assert_eq!(event.usual_reply().code().get(), code, "{event:?}");
+    }
+    assert_eq!(Refusal::LineTooLong.reply().code(), ReplyCode::COMMAND_SYNTAX_ERROR);
+    Ok(())
+}
+
+#[test]
+fn a_server_without_features_says_so_in_one_line() -> Result<(), Error> {
+    let none: [&str; 0] = [];
+    // RFC 2389, section 3.2: 211, a space and a text
+    assert_eq!(Reply::features(none).to_bytes()?, b"211 No features\r\n");
+    Ok(())
+}
+
 #[test]
 fn a_file_name_makes_no_other_reply() -> Result<(), Error> {
     let reply = Reply::new(ReplyCode::DIR_CREATED, format!("\"{}\"", "a\r\n226 Done\r\nb"));

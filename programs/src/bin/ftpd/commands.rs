@@ -3,7 +3,6 @@ use crate::folder::FilePath;
 use crate::line::{list_path, parameter, with_nul};
 use crate::listing::{Fact, Form};
 use crate::record;
-use crate::replies;
 use crate::representation::Representation;
 use crate::server::Checked;
 use crate::session::Session;
@@ -229,7 +228,7 @@ impl Session {
         let words = String::from_utf8_lossy(&line.bytes).trim_end().to_ascii_uppercase();
         match words.strip_prefix("OPTS MLST") {
             Some(facts) if facts.is_empty() || facts.starts_with(' ') => self.set_facts(facts),
-            _ => Err(replies::of_refusal(refusal)),
+            _ => Err(refusal.reply()),
         }
     }
 

@@ -1,23 +1,12 @@
 //! Replies to faults of files.
 use rustix::io::Errno;
 use std::io;
-use unftp_control::{Error, Refusal, Reply, ReplyCode as Code};
-
-/// The reply to a line that is no command: 501 where its verb doesn't take its parameter (RFC 959,
-/// section 4.2.1).
-pub fn of_refusal(refusal: Refusal) -> Reply {
-    match refusal {
-        Refusal::InvalidCommand => {
-            Reply::new(Code::PARAMETER_SYNTAX_ERROR, "The command doesn't take this parameter")
-        }
-        _ => Reply::new(Code::COMMAND_SYNTAX_ERROR, refusal.to_string()),
-    }
-}
+use unftp_control::{Error, Reply, ReplyCode as Code};
 
 /// The reply to a line without the value that its command needs.
 pub fn of_line_error(error: Error) -> Reply {
     match error {
-        Error::Refused(refusal) => of_refusal(refusal),
+        Error::Refused(refusal) => refusal.reply(),
         _ => Reply::new(Code::LOCAL_ERROR, "Out of memory"),
     }
 }
