@@ -2,9 +2,8 @@
 ghost use Rattle.std.specs.Prelude.{◌≡◌, ◌++◌, IfErr, IsOk, OnErr, OnOk, false, true};
 ghost use Rattle.unftp_control_defs.specs.FtpReply.{encoded};
 ghost use Rattle.unftp_control_defs.specs.Room.{LacksRoom};
-ghost use Rattle.unftp_control_defs.specs.Turns.{is_preliminary};
 ghost use Rattle.unftp_control_message.specs.ReplyMeaning.{reply_of};
-ghost use Rattle.unftp_control_proxy.specs.ProxyAnswers.{IsNoAnswer, answer_reply, is_answer, is_final_reply};
+ghost use Rattle.unftp_control_proxy.specs.ProxyAnswers.{IsNoAnswer, answer_reply, as_read, is_answer, is_final_reply};
 
 use crate::errors::SendError;
 use std::alloc::AllocError;
@@ -36,9 +35,9 @@ impl Answer {
         }
     }
 
-    /// Its code.
+    /// Its code, or 0 where it has none.
     pub(crate) fn code(&self) -> u32
-        ensures { is_answer (answer_reply self.now) ≡ true → is_preliminary result ≡ false }
+        ensures { result ≡ (as_read (answer_reply self.now)).0 }
     {
         match self {
             Answer::Reply(reply) => code_of(reply),
@@ -62,9 +61,9 @@ impl Answer {
     }
 }
 
-/// The code of the reply.
+/// The code of the reply, or 0 where it has none.
 fn code_of(reply: &Reply) -> u32
-    ensures { is_answer (reply_of reply.now) ≡ true → is_preliminary result ≡ false }
+    ensures { result ≡ (as_read (reply_of reply.now)).0 }
 {
     match reply {
         Reply::None => 0,

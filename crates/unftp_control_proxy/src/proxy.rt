@@ -399,29 +399,14 @@ impl Proxy {
         ensures out_err { OnErr result (to_client.new.items ≡ to_client.old.items) }
         ensures why { IfErr result (IsNextError self.old to_client.old) }
     {
-        if !self.order.dialogue.owes_reply() && self.answer.is_some() {
-            return self.give_answer(to_client);
-        }
-        self.pass_reply(to_client)
-    }
-
-    /// Appends the answer that is due.
-    fn give_answer(&mut self, to_client: &mut Vec<u8>) -> Result<Option<NextReply>, NextReplyError>
-        requires { is_due self.old ≡ true }
-        ensures ok { IfOk result (λ next.
-            GivesNext self.old next to_client.old.items to_client.new.items self.new) }
-        ensures err { OnErr result (self.new ≡ self.old) }
-        ensures out_err { OnErr result (to_client.new.items ≡ to_client.old.items) }
-        ensures why { IfErr result (IsNextError self.old to_client.old) }
-    {
-        let Some(answer) = &self.answer else {
-            return Ok(None);
+        let answer = match &self.answer {
+            Some(answer) if self.order.may_answer(answer.code()) => answer,
+            _ => return self.pass_reply(to_client),
         };
         if answer.append_to(to_client).is_err() {
             return Err(NextReplyError::OutOfMemory);
         }
-        let code = answer.code();
-        self.order.answer(code);
+        self.order.answer(answer.code());
         let given = mem::replace(&mut self.answer, None);
         drop(given);
         Ok(Some(NextReply::Answered))
