@@ -15,7 +15,7 @@ ghost use Rattle.unftp_control_login.specs.Gate.{nobody};
 ghost use Rattle.unftp_control_login.specs.declared.stage.LoginStep.TheVariants.{NeedLogin, PassOn};
 ghost use Rattle.unftp_control_login.specs.declared.stage.Progress.TheVariants.{Asked, LoggedIn, Named, NoName};
 ghost use Rattle.unftp_control_login.specs.declared.stage.Role.TheVariants.{Closed, Name, Open};
-ghost use Rattle.unftp_control_c.specs.Logins.{event_role, kept_after_all, progress_of, step_number};
+ghost use Rattle.unftp_control_c.specs.Logins.{KeepsSame, event_role, kept_after_all, progress_of, step_number};
 ghost use Rattle.unftp_control_c.specs.declared.status.Status.TheVariants.{InvalidArgument, Malformed, More, NoLine, OutOfMemory};
 
 /// Log lines, by what `unftp_next` returned: 2 is PASS, and 105 a line that is too long.
@@ -95,6 +95,14 @@ pub fn events_have_roles()
     ensures last_step { step_number NeedLogin ≡ 4 }
     ensures last { progress_of 3 ≡ Asked }
     ensures unknown { progress_of 4 ≡ NoName }
+{}
+
+/// Whether the same is kept of two logins that differ in their names.
+pub fn logins_keep_names()
+    ensures named { ¬ KeepsSame (record { progress = Named; name = codes "anna" })
+        (record { progress = Named; name = codes "otto" }) }
+    ensures logged_in { KeepsSame (record { progress = LoggedIn; name = codes "anna" })
+        (record { progress = LoggedIn; name = codes "otto" }) }
 {}
 
 /// Whole logins, where the accounts accept each password of one name, or of all.
