@@ -1,8 +1,8 @@
 -- What a server in C does with an event is what a login gate does.
-use Rattle.std.proofs.Common.{◌≡◌, ◌≢◌, Bool, true, false, List, [], ◌∷◌, Some, None, not, ◌&&◌, refl, sym, ap, subst, ◌∙◌}
+use Rattle.std.proofs.Common.{◌≡◌, ◌≢◌, Bool, true, false, List, [], ◌∷◌, Some, not, ◌&&◌, refl, sym, ap, subst, ◌∙◌}
 use Rattle.std.proofs.lemmas.Bool.{false≢true}
 use Rattle.unftp_control_defs.specs.Bytes.{Bytes}
-use Rattle.unftp_control_defs.specs.Events.{Fault, FaultKind, FaultSource, FtpEvent, Command, Io, NoSource, Parse, Refused, Utf8}
+use Rattle.unftp_control_defs.specs.Events.{Fault, FaultKind, FaultSource, FtpEvent, Command, Parse, Refused}
 use Rattle.unftp_control_defs.specs.Events as kinds
 use Rattle.unftp_control_defs.specs.FtpCommand.{InvalidCommand, InvalidEol, InvalidUtf8, Quit}
 use Rattle.unftp_control_login.specs.Gate.{decided, decision_at, is_logged_in, nobody, stage_after, stage_after_all, stage_by}
