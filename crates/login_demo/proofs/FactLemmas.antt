@@ -5,10 +5,11 @@ use Rattle.std.specs.Fmt.{digits}
 use Rattle.std.specs.Result.{IfOk}
 use Rattle.unftp_control_defs.specs.Bytes.{Bytes}
 use Rattle.unftp_control_commands.specs.Answers.{facts_reply}
-use Rattle.unftp_control.specs.Facts.{FileFacts, IsFacts, IsFactsReply, IsTimeText, id_fact, modify_fact, type_fact}
+use Rattle.unftp_control.specs.FactsReply.{IsFactsReply}
+use Rattle.unftp_control_facts.specs.Facts.{FileFacts, IsFacts, IsTimeText, id_fact, modify_fact, type_fact}
 use Rattle.unftp_control_message.specs.ReplyMeaning.{reply_of}
 use Rattle.unftp_control_message.specs.declared.reply.reply.Reply.{Reply}
-use Rattle.unftp_control.proofs.FactTextLemmas.{IsFacts-unique, IsTimeText-unique}
+use Rattle.unftp_control_facts.proofs.FactTextLemmas.{IsFacts-unique, IsTimeText-unique}
 use Rattle.login_demo.specs.declared.tree.File.{File}
 use Rattle.login_demo.specs.declared.tree.File.TheVariants as file
 use Rattle.login_demo.specs.declared.tree.Entry.TheVariants as entry

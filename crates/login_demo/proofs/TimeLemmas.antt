@@ -3,8 +3,8 @@ use Rattle.std.proofs.Common.{◌≡◌, ℤ, pos, Some, codes, refl, sym, ◌�
 use Rattle.jiff_core.specs.declared.civil.datetime.DateTime.{DateTime}
 use Rattle.jiff_core.specs.Calendar.{days_from_civil, day_count, days_of_years, days_of_months}
 use Rattle.jiff_core.specs.DateTime.{civil_nanos}
-use Rattle.unftp_control.specs.Facts.{IsTimeText}
-use Rattle.unftp_control.proofs.CivilLemmas.{civil}
+use Rattle.unftp_control_facts.specs.Facts.{IsTimeText}
+use Rattle.unftp_control_facts.proofs.CivilLemmas.{civil}
 
 readme_civil : DateTime
 readme_civil = civil 2024 2 29 12 34 56 (search rules)

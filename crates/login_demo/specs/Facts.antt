@@ -2,7 +2,7 @@
 use Rattle.std.specs.Prelude.{◌++◌, decimal, Option, Some, None, codes}
 use Rattle.unftp_control_defs.specs.Bytes.{Bytes}
 use Rattle.unftp_control_commands.specs.Answers.{facts_reply}
-use Rattle.unftp_control.specs.Facts.{FileFacts}
+use Rattle.unftp_control_facts.specs.Facts.{FileFacts}
 use Rattle.unftp_control_defs.specs.FtpReply.{FtpReply, CodeAndMsg}
 use Rattle.unftp_control_commands.specs.ReplyTexts.{quoted}
 use Rattle.login_demo.specs.declared.facts.EntryFacts.{EntryFacts}

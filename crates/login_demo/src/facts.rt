@@ -2,7 +2,7 @@
 ghost use Rattle.std.specs.Prelude.{◌≡◌, IfOk, IfErr};
 ghost use Rattle.unftp_control_message.specs.ErrorMeaning.{fault_of};
 ghost use Rattle.unftp_control_defs.specs.Events.{out_of_memory};
-ghost use Rattle.unftp_control.specs.Facts.{IsFacts};
+ghost use Rattle.unftp_control_facts.specs.Facts.{IsFacts};
 ghost use Rattle.unftp_control_message.specs.ReplyMeaning.{reply_of};
 ghost use Rattle.login_demo.specs.Facts.{entry_facts, facts_known, mdtm_reply, mlst_reply, no_file, pwd_reply, size_reply};
 

@@ -1,6 +1,6 @@
 //! The tree: a few directories and files.
 ghost use Rattle.std.specs.Prelude.{◌≡◌, map, Some};
-ghost use Rattle.unftp_control.specs.Facts.{IsTimeText};
+ghost use Rattle.unftp_control_facts.specs.Facts.{IsTimeText};
 ghost use Rattle.login_demo.specs.Tree.{entry_at, entry_names, file_size, file_time, has_names};
 
 use jiff::Timestamp;

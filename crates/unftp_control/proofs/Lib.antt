@@ -1,6 +1,3 @@
-mod YearLemmas
-pub mod FactTextLemmas
-pub mod CivilLemmas
 mod FoldLemmas
 mod EpsvLemmas
 mod PieceLemmas
@@ -17,6 +14,8 @@ pub use Rattle.unftp_control_defs.proofs.EncodingLemmas
 pub use Rattle.unftp_control_defs.proofs.ReplyLemmas
 pub use Rattle.unftp_control_defs.proofs.LineLemmas
 pub use Rattle.unftp_control_defs.proofs.RunLemmas
+pub use Rattle.unftp_control_facts.proofs.FactTextLemmas
+pub use Rattle.unftp_control_facts.proofs.CivilLemmas
 pub use Rattle.unftp_control_serve.proofs.ClientLineLemmas
 pub use Rattle.unftp_control_serve.proofs.SendLemmas
 pub use Rattle.unftp_control_serve.proofs.EndingLemmas

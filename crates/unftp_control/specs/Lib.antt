@@ -1,4 +1,4 @@
-pub mod Facts
+pub mod FactsReply
 pub mod Snapshots
 pub mod RunEnd
 pub mod Conversation
@@ -48,6 +48,9 @@ pub use Rattle.unftp_control_codecs.specs.Calls
 pub use Rattle.unftp_control_codecs.specs.ReplyCodes
 pub use Rattle.unftp_control_commands.specs.Answers
 pub use Rattle.unftp_control_commands.specs.ReplyTexts
+pub use Rattle.unftp_control_facts.specs.Facts
+pub use Rattle.unftp_control_facts.specs.Files
+pub use Rattle.unftp_control_facts.specs.Listing
 pub use Rattle.unftp_control_serve.specs.EventMeaning
 pub use Rattle.unftp_control_serve.specs.ClientLines
 pub use Rattle.unftp_control_serve.specs.Answering

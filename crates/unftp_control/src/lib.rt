@@ -1,7 +1,7 @@
 //! The control protocol layer of an FTP server: bytes of a control connection come in, and typed
 //! commands or named refusals come out; replies go in, and their bytes come out (RFC 959).
 //!
-//! The modules are crates of their own but `laws` and the facts of files, and this one re-exports
+//! The modules are crates of their own but `laws` and `commands::Mlst`, and this one re-exports
 //! them, with the crate `bytes` of the fields that are raw bytes.
 #![tactic(auto)]
 
@@ -16,6 +16,7 @@ pub use unftp_control_address as address;
 pub use unftp_control_client as client;
 pub use unftp_control_codecs as codecs;
 pub use unftp_control_codecs::line_parser;
+pub use unftp_control_facts as facts;
 pub use unftp_control_log as log;
 pub use unftp_control_login as login;
 pub use unftp_control_message::{parts, password, reply, sent};

@@ -5,12 +5,12 @@ ghost use Rattle.unftp_control_defs.specs.FtpReply.{CodeAndMsg};
 ghost use Rattle.unftp_control_message.specs.ErrorMeaning.{fault_of};
 ghost use Rattle.unftp_control_message.specs.ReplyMeaning.{reply_of};
 ghost use Rattle.unftp_control_commands.specs.Answers.{facts_reply};
-ghost use Rattle.unftp_control.specs.Facts.{IsFactsReply};
+ghost use Rattle.unftp_control.specs.FactsReply.{IsFactsReply};
 
-use crate::commands::facts::{Metadata, format_facts};
 use std::alloc::Global;
 use std::marker::Model;
 use unftp_control_commands::facts_reply;
+use unftp_control_facts::{Metadata, format_facts};
 use unftp_control_message::reply::error::ControlChanError;
 use unftp_control_message::reply::{Reply, ReplyCode};
 

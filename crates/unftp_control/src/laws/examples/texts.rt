@@ -1,12 +1,11 @@
 //! Examples of the definitions, worked out by hand: for each one that holds and one that doesn't,
 //! at the boundary.
-ghost use Rattle.std.specs.Prelude.{◌≡◌, ◌++◌, [], None, Some, codes, false, true};
+ghost use Rattle.std.specs.Prelude.{◌≡◌, ◌++◌, codes, false, true};
 ghost use Rattle.unftp_control_commands.specs.Answers.{auth_change, epsv_reply, port_reply, prot_change};
 ghost use Rattle.unftp_control_commands.specs.ReplyTexts.{HasNoFirstQuote, quoted};
 ghost use Rattle.unftp_control_commands.specs.declared.epsv.Passive.TheVariants.{Port, Prebound};
 ghost use Rattle.unftp_control_commands.specs.declared.session.SessionChange.TheVariants.{DataTls, Nothing, SecureControlChannel};
 ghost use Rattle.unftp_control_codecs.specs.ReplyCodes.{IsReplyCode};
-ghost use Rattle.unftp_control.specs.Facts.{modify_fact};
 ghost use Rattle.unftp_control_defs.specs.FtpReply.{CodeAndMsg};
 ghost use Rattle.unftp_control_defs.specs.declared.parameters.AuthParam.TheVariants.{Ssl, Tls};
 ghost use Rattle.unftp_control_defs.specs.declared.parameters.ProtParam.TheVariants.{Clear, Private, Safe};
@@ -43,11 +42,4 @@ pub fn ports_are_told_so()
     ensures port { epsv_reply (Port 2121) ≡ port_reply 2121 }
     ensures bound_before { epsv_reply Prebound
         ≡ CodeAndMsg 502 (codes "EPSV not supported in this mode") }
-{}
-
-/// The fact of a time, where one is known (RFC 3659, section 7.5.3).
-pub fn times_are_facts_so()
-    ensures known { modify_fact (Some (codes "20231201120000"))
-        ≡ codes "modify=20231201120000;" }
-    ensures unknown { modify_fact None ≡ [] }
 {}

@@ -3,7 +3,7 @@ ghost use Rattle.std.specs.Prelude.{◌≡◌, ◌+◌, ◌∷◌, [], ◌<◌, 
 ghost use Rattle.unftp_control_defs.specs.Bytes.{Bytes};
 ghost use Rattle.unftp_control_defs.specs.Events.{out_of_memory};
 ghost use Rattle.unftp_control_message.specs.ErrorMeaning.{fault_of};
-ghost use Rattle.unftp_control.specs.Facts.{FileFacts, IsFacts, IsModified, IsTimeText, id_fact, modify_fact, two_digits, type_fact};
+ghost use Rattle.unftp_control_facts.specs.Facts.{FileFacts, HasFacts, IsFacts, IsModified, IsTimeText, id_fact, modify_fact, two_digits, type_fact};
 
 use jiff::Timestamp;
 use jiff::tz::Offset;
@@ -122,10 +122,21 @@ pub fn format_facts<M: Metadata>(alloc: Global, metadata: &M) -> Result<String, 
     ensures ok { IfOk result (λ facts. IsFacts (M.facts_of metadata.now) (string_bytes facts)) }
     ensures err { IfErr result (λ error. fault_of error ≡ out_of_memory) }
 {
+    Ok(facts_with(alloc, type_text(metadata.is_dir()), metadata)?)
+}
+
+/// The facts of a file in one text, of which the first, that of the type, is given.
+pub(crate) fn facts_with<M: Metadata>(
+    alloc: Global,
+    first: &str,
+    metadata: &M,
+) -> Result<String, AllocError>
+    ensures { IfOk result (λ facts.
+        HasFacts first.now (M.facts_of metadata.now) (string_bytes facts)) }
+{
     let time = modified_text(alloc, metadata.modified())?;
-    let kind = type_text(metadata.is_dir());
     let size = metadata.len();
-    let mut text = format!(in alloc; "{kind}size={size};")?;
+    let mut text = format!(in alloc; "{first}size={size};")?;
     push_modify(&mut text, &time)?;
     push_id(&mut text, "unix.uid=", metadata.uid())?;
     push_id(&mut text, "unix.gid=", metadata.gid())?;

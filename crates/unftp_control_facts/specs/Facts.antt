@@ -1,11 +1,10 @@
--- The facts of a file (RFC 3659, section 7.5), each ended by a semicolon, in the reply to MLST.
+-- The facts of a file (RFC 3659, section 7.5), each ended by a semicolon, in the reply to MLST and in
+-- lines of MLSD.
 use Rattle.std.specs.Prelude.{◌≡◌, ℕ, ◌+◌, ◌/◌, ◌%◌, ℤ, pos, negsuc, ◌∷◌, ◌++◌, [], Bool, nat_lt, if◌then◌else◌, codes, decimal, Option, None, Some}
 use Rattle.jiff_core.specs.declared.civil.datetime.DateTime.{DateTime}
 use Rattle.jiff_core.specs.declared.timestamp.Timestamp.{Timestamp}
 use Rattle.jiff_core.specs.DateTime.{civil_nanos}
 use Rattle.unftp_control_defs.specs.Bytes.{Bytes}
-use Rattle.unftp_control_defs.specs.FtpReply.{FtpReply}
-use Rattle.unftp_control_commands.specs.Answers.{facts_reply}
 
 -- a number below 100 in two digits
 abbrev pub two_digits : ℕ → Bytes
@@ -48,13 +47,13 @@ pub record FileFacts : Type 0 where
   pub uid : ℕ
   pub gid : ℕ
 
-abbrev pub IsFacts : FileFacts → Bytes → Type 0
-IsFacts file facts =
+-- the facts, of which the first is that of the type
+abbrev pub HasFacts : Bytes → FileFacts → Bytes → Type 0
+HasFacts first file facts =
     (time : Option Bytes) × IsModified file.modified time
-    × (facts ≡ type_fact file.is_dir ++ codes "size=" ++ decimal file.size ++ codes ";"
+    × (facts ≡ first ++ codes "size=" ++ decimal file.size ++ codes ";"
     ++ modify_fact time
     ++ id_fact (codes "unix.uid=") file.uid ++ id_fact (codes "unix.gid=") file.gid)
 
-abbrev pub IsFactsReply : FileFacts → Bytes → FtpReply → Type 0
-IsFactsReply file path reply =
-    (facts : Bytes) × IsFacts file facts × (reply ≡ facts_reply facts path)
+abbrev pub IsFacts : FileFacts → Bytes → Type 0
+IsFacts file = HasFacts (type_fact file.is_dir) file

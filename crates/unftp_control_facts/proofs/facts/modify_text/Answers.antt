@@ -1,6 +1,6 @@
 use Rattle.std.proofs.Common.{rules}
-use Rattle.unftp_control.proofs.YearLemmas.{time_text-none, time_text-some}
-use Rattle.unftp_control.proofs.commands.facts.modify_text.Goals as goal
+use Rattle.unftp_control_facts.proofs.YearLemmas.{time_text-none, time_text-some}
+use Rattle.unftp_control_facts.proofs.facts.modify_text.Goals as goal
 
 pub returns-then-year-lt0 : goal.returns-then-year-lt0
 returns-then-year-lt0 c =

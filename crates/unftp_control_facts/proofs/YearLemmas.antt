@@ -2,7 +2,7 @@
 use Rattle.std.proofs.Common.{◌≡◌, ◌/◌, ◌%◌, ◌++◌, ℤ, pos, negsuc, Some, None, refl, ap, ◌∙◌, true, false, arith, rules}
 use Rattle.std.specs.Prelude.{int_lt, unsigned_abs}
 use Rattle.jiff_core.specs.declared.civil.datetime.DateTime.{DateTime}
-use Rattle.unftp_control.specs.Facts.{two_digits, time_text}
+use Rattle.unftp_control_facts.specs.Facts.{two_digits, time_text}
 
 pub time_text-none : (y : ℤ) (dt : DateTime) → int_lt y (pos 0) ≡ true → time_text y dt ≡ None
 time_text-none (negsuc n) dt h = refl

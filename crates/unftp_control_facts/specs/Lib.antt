@@ -1,0 +1,4 @@
+pub mod Facts
+pub mod Files
+pub mod Listing
+pub mod Examples
