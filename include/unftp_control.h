@@ -47,6 +47,8 @@
  *     unftp_login_reply            step, accepted      out, len                 none
  *     unftp_read_address           form, text          ip, address              none
  *     unftp_write_address          form, ip, port      out, len                 some
+ *     unftp_facts_line             file, name          out, len                 3 *len + 300
+ *     unftp_list_line              file, now, name     out, len                 3 *len + 300
  *     unftp_version                nothing             nothing                  none
  *
  * What the library's functions return and write is proved, and so are the bounds on lengths, but
@@ -332,6 +334,36 @@ struct unftp_address {
     size_t ip_len;
     /* The port, below 65536. */
     uint32_t port;
+};
+
+/* What a file is, and how its lines say so: the letter in LIST, and the fact in MLSD. */
+enum unftp_file_kind {
+    UNFTP_KIND_FILE = 0,             /* -, type=file */
+    UNFTP_KIND_DIRECTORY = 1,        /* d, type=dir */
+    UNFTP_KIND_LINK = 2,             /* l, type=OS.unix=symlink */
+    UNFTP_KIND_PIPE = 3,             /* p, type=OS.unix=pipe */
+    UNFTP_KIND_SOCKET = 4,           /* s, type=OS.unix=socket */
+    UNFTP_KIND_CHARACTER_DEVICE = 5, /* c, type=OS.unix=chr */
+    UNFTP_KIND_BLOCK_DEVICE = 6      /* b, type=OS.unix=blk */
+};
+
+/* What a server tells of a file, besides its name. Set each of them: most are those of stat. */
+struct unftp_file {
+    /* How many bytes it has. */
+    uint64_t size;
+    /* When it was last modified, in seconds of the Unix epoch: not read where has_modified is 0. */
+    int64_t modified;
+    /* 0 where that is not known. */
+    uint32_t has_modified;
+    /* One of enum unftp_file_kind. */
+    uint32_t kind;
+    /* Its permissions: the nine low bits. The others are not shown, so st_mode can be passed. */
+    uint32_t mode;
+    /* How many names it has. */
+    uint32_t links;
+    /* The user and the group that it belongs to, or 0 where that is not told. */
+    uint32_t uid;
+    uint32_t gid;
 };
 
 /*
@@ -823,6 +855,37 @@ enum unftp_result unftp_read_address(uint32_t form, const char *text, size_t tex
  */
 enum unftp_result unftp_write_address(uint32_t form, const char *ip, size_t ip_len, uint32_t port,
                                       char *out, size_t out_room, size_t *len) UNFTP_NONNULL;
+
+/*
+ * Writes the line of a file in a listing to the start of out, with its CR LF, and *len is how many
+ * bytes it has. unftp_facts_line writes that of MLSD: the facts, a space and the name (RFC 3659,
+ * section 7.2). The facts are, in this order, the type; size; modify, where the time is known and
+ * its year is not before 0; and unix.uid and unix.gid, where they are not 0:
+ *
+ *     type=file;size=1234;modify=20231201120000; a.txt
+ *
+ * unftp_list_line writes that of LIST, in the form of ls -l, which clients read:
+ *
+ *     -rw-r--r--   1 ftp      ftp              1234 Dec  1 12:00 a.txt
+ *
+ * The columns are the kind with the permissions; links, at the right of 3 bytes; uid and gid, at
+ * the left of 8 bytes, with "ftp" for 0; size, at the right of 12; the date; and the name. What is
+ * longer than its column is written whole. A file that was modified less than 182 days before now,
+ * which is in seconds of the Unix epoch, and not after it, has the time of day; any other has the
+ * year, as "Dec  1  2023". A year before 0 is written as 0000, and an unknown time as that of the
+ * Unix epoch. Times are of UTC. The name of a link may have " -> " and what it leads to after it.
+ *
+ * Both return UNFTP_DONE; UNFTP_NO_ROOM, where *len is the room that is needed, at most 112 bytes
+ * and the name's, which is measured; UNFTP_OUT_OF_MEMORY; or UNFTP_INVALID_ARGUMENT exactly where
+ * the kind is above UNFTP_KIND_BLOCK_DEVICE, where the name has a CR or a line feed, or where a time
+ * that is known, or now, is before -377705023201, in the year -9999, or after 253402207200, on the
+ * day before the last of 9999. out is as it was but at UNFTP_DONE.
+ */
+enum unftp_result unftp_facts_line(const struct unftp_file *file, const char *name, size_t name_len,
+                                   char *out, size_t out_room, size_t *len) UNFTP_NONNULL;
+enum unftp_result unftp_list_line(const struct unftp_file *file, int64_t now, const char *name,
+                                  size_t name_len, char *out, size_t out_room,
+                                  size_t *len) UNFTP_NONNULL;
 
 /* The version of the library, as UNFTP_VERSION is that of the header. */
 uint32_t unftp_version(void);

@@ -14,3 +14,4 @@ pub mod Clients
 pub mod Logins
 pub mod NumberedReplies
 pub mod Addresses
+pub mod FileLines

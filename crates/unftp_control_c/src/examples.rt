@@ -17,6 +17,7 @@ ghost use Rattle.unftp_control_c.specs.declared.status.Status.TheVariants.{Inval
 
 pub mod addresses;
 pub mod calls;
+pub mod files;
 pub mod parameters;
 pub mod sessions;
 pub mod usual;

@@ -8,6 +8,7 @@ mod clear;
 mod client;
 pub mod examples;
 mod exchange;
+mod facts;
 mod forwarding;
 mod found;
 pub mod laws;

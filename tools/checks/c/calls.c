@@ -4,8 +4,8 @@
  * call with no room at all, with one byte less than it asks for, and with enough; the bounds on
  * what it asks for; what it leaves as it was; where a value is; and that what is written is read
  * back. Checks by tables what it says of names and values, replies, also the usual ones, log lines,
- * clients, logins and addresses. Each area has no byte more than its call is told, so that valgrind finds what is
- * written past it. Prints how many inputs there were, and of what kind.
+ * clients, logins, addresses and files. Each area has no byte more than its call is told, so that
+ * valgrind finds what is written past it. Prints how many inputs there were, and of what kind.
  */
 #include <unftp_control.h>
 
@@ -17,8 +17,10 @@
 enum {
     FILLING = '.',
 
-    /* how many bytes the longest address has */
-    LONGEST_ADDRESS = 49
+    /* how many bytes the longest address has, and the longest lines of files without a name */
+    LONGEST_ADDRESS = 49,
+    LONGEST_FACTS = 112,
+    LONGEST_LIST = 80
 };
 
 struct bytes {
@@ -1424,6 +1426,164 @@ static void check_address_arguments(void)
     free_area(text);
 }
 
+/* What lines of a file show at a time: that of LIST has the date as ls of coreutils has it. */
+struct listed {
+    struct unftp_file file;
+    int64_t now;
+    const char *name, *list, *facts;
+};
+
+/* The line of a file with this name, in LIST or else in MLSD. */
+static enum unftp_result file_line(bool is_list, const struct unftp_file *file, int64_t now,
+                                   struct bytes name, struct bytes out, size_t *len)
+{
+    return is_list ? unftp_list_line(file, now, name.at, name.len, out.at, out.len, len)
+                   : unftp_facts_line(file, name.at, name.len, out.at, out.len, len);
+}
+
+/* Writes the line of a file with just enough room. */
+static struct bytes written_line(bool is_list, const struct unftp_file *file, int64_t now,
+                                 struct bytes name)
+{
+    struct bytes none = area_of(0), less, out;
+    size_t room, again;
+
+    wants(file_line(is_list, file, now, name, none, &room) == UNFTP_NO_ROOM
+              && room <= name.len + (is_list ? LONGEST_LIST : LONGEST_FACTS),
+          "the line of a file needs no more room than the header says");
+    free_area(none);
+    less = area_of(room - 1);
+    wants(file_line(is_list, file, now, name, less, &again) == UNFTP_NO_ROOM && again == room
+              && is_filling(less),
+          "the line of a file needs this room");
+    free_area(less);
+    out = area_of(room);
+    wants(file_line(is_list, file, now, name, out, &again) == UNFTP_DONE && again == room,
+          "the line of a file has just enough room");
+    return out;
+}
+
+/* Nothing is written of what can't be told. */
+static void check_no_line(bool is_list, struct unftp_file file, int64_t now, struct bytes name)
+{
+    struct bytes out = area_of(name.len + LONGEST_FACTS);
+    size_t len = 1;
+
+    wants(file_line(is_list, &file, now, name, out, &len) == UNFTP_INVALID_ARGUMENT && len == 0
+              && is_filling(out),
+          "no such kind, time or name");
+    free_area(out);
+}
+
+static struct bytes copied(const char *text)
+{
+    struct bytes copy = area_of(strlen(text));
+    memcpy(copy.at, text, copy.len);
+    return copy;
+}
+
+/* Lines of files, with each kind, each column at its bound and each form of the date. */
+static void check_file_lines(void)
+{
+    const int64_t noon = 1701432000, half_a_year = 182 * 86400, last = 253402207200;
+    const struct listed rows[] = {
+        {{1234, noon, 1, UNFTP_KIND_FILE, 0100644, 1, 0, 0}, noon, "a.txt",
+         "-rw-r--r--   1 ftp      ftp              1234 Dec  1 12:00 a.txt\r\n",
+         "type=file;size=1234;modify=20231201120000; a.txt\r\n"},
+        {{4096, noon, 1, UNFTP_KIND_DIRECTORY, 0755, 12, 1000, 100}, noon + half_a_year - 1, " d",
+         "drwxr-xr-x  12 1000     100              4096 Dec  1 12:00  d\r\n",
+         "type=dir;size=4096;modify=20231201120000;unix.uid=1000;unix.gid=100;  d\r\n"},
+        {{0, noon, 1, UNFTP_KIND_LINK, 0120777, 1, 0, 1}, noon + half_a_year, "l -> a",
+         "lrwxrwxrwx   1 ftp      1                   0 Dec  1  2023 l -> a\r\n",
+         "type=OS.unix=symlink;size=0;modify=20231201120000;unix.gid=1; l -> a\r\n"},
+        {{0, noon, 1, UNFTP_KIND_PIPE, 04751, 1, 1, 0}, noon - 1, "p",
+         "prwxr-x--x   1 1        ftp                 0 Dec  1  2023 p\r\n",
+         "type=OS.unix=pipe;size=0;modify=20231201120000;unix.uid=1; p\r\n"},
+        /* the leap day, and the time of RFC 3659, section 3.4, that is a value of MDTM */
+        {{999999999999, 1709164800, 1, UNFTP_KIND_SOCKET, 0, 999, 0, 0}, noon + half_a_year, "s",
+         "s--------- 999 ftp      ftp      999999999999 Feb 29 00:00 s\r\n",
+         "type=OS.unix=socket;size=999999999999;modify=20240229000000; s\r\n"},
+        {{1000000000000, 938565235, 1, UNFTP_KIND_CHARACTER_DEVICE, 0222, 1000, 99999999, 100000000},
+         noon, "c",
+         "c-w--w--w- 1000 99999999 100000000 1000000000000 Sep 29  1999 c\r\n",
+         "type=OS.unix=chr;size=1000000000000;modify=19990929003355;unix.uid=99999999;"
+         "unix.gid=100000000; c\r\n"},
+        {{0, 0, 0, UNFTP_KIND_BLOCK_DEVICE, 0111, 0, 0, 0}, noon, "",
+         "b--x--x--x   0 ftp      ftp                 0 Jan  1  1970 \r\n",
+         "type=OS.unix=blk;size=0; \r\n"},
+        {{0, -377705023201, 1, UNFTP_KIND_FILE, 0444, 1, 0, 0}, -377705023201, "\t\xff",
+         "-r--r--r--   1 ftp      ftp                 0 Jan  2 01:59 \t\xff\r\n",
+         "type=file;size=0; \t\xff\r\n"},
+        {{0, -377705023201, 1, UNFTP_KIND_FILE, 0444, 1, 0, 0}, last, "a",
+         "-r--r--r--   1 ftp      ftp                 0 Jan  2  0000 a\r\n",
+         "type=file;size=0; a\r\n"},
+        {{UINT64_MAX, 253402207200, 1, UNFTP_KIND_LINK, UINT32_MAX, UINT32_MAX, UINT32_MAX,
+          UINT32_MAX},
+         0, "a",
+         "lrwxrwxrwx 4294967295 4294967295 4294967295 18446744073709551615 Dec 30  9999 a\r\n",
+         "type=OS.unix=symlink;size=18446744073709551615;modify=99991230220000;"
+         "unix.uid=4294967295;unix.gid=4294967295; a\r\n"},
+    };
+
+    for (size_t at = 0; at < sizeof rows / sizeof rows[0]; at++) {
+        struct bytes name = copied(rows[at].name);
+        struct bytes list = written_line(true, &rows[at].file, rows[at].now, name);
+        struct bytes facts = written_line(false, &rows[at].file, rows[at].now, name);
+        wants(is_text(list, rows[at].list), rows[at].list);
+        wants(is_text(facts, rows[at].facts), rows[at].facts);
+        free_area(facts);
+        free_area(list);
+        free_area(name);
+    }
+}
+
+/* Kinds, times and names that no line has; a time that is not known is not read. */
+static void check_file_arguments(void)
+{
+    const struct unftp_file file = {0, 0, 1, UNFTP_KIND_FILE, 0, 1, 0, 0};
+    const int64_t times[] = {INT64_MIN, -377705023202, 253402207201, INT64_MAX};
+    const uint32_t kinds[] = {7, 256, UINT32_MAX};
+    struct bytes name = copied("a");
+    struct unftp_file wrong;
+
+    for (size_t at = 0; at < sizeof times / sizeof times[0]; at++) {
+        wrong = file;
+        wrong.modified = times[at];
+        check_no_line(true, wrong, 0, name);
+        check_no_line(false, wrong, 0, name);
+        check_no_line(true, file, times[at], name);
+        wrong.has_modified = 0;
+        free_area(written_line(true, &wrong, 0, name));
+        free_area(written_line(false, &wrong, 0, name));
+    }
+    for (size_t at = 0; at < sizeof kinds / sizeof kinds[0]; at++) {
+        wrong = file;
+        wrong.kind = kinds[at];
+        check_no_line(true, wrong, 0, name);
+        check_no_line(false, wrong, 0, name);
+    }
+    free_area(name);
+}
+
+/* An input is the name of a file, unless it has a CR or a line feed. */
+static void check_file_name(struct bytes name)
+{
+    const struct unftp_file file = {0, 0, 1, UNFTP_KIND_FILE, 0, 1, 0, 0};
+
+    for (int is_list = 0; is_list < 2; is_list++) {
+        struct bytes line;
+        if (memchr(name.at, '\r', name.len) != NULL || memchr(name.at, '\n', name.len) != NULL) {
+            check_no_line(is_list, file, 0, name);
+            continue;
+        }
+        line = written_line(is_list, &file, 0, name);
+        wants(line.len > name.len + 2 && memcmp(line.at + line.len - 2, "\r\n", 2) == 0
+                  && memcmp(line.at + line.len - 2 - name.len, name.at, name.len) == 0,
+              "a line ends in the name");
+        free_area(line);
+    }
+}
+
 /* What no call leaves, and no code. */
 static void check_arguments(void)
 {
@@ -1482,12 +1642,15 @@ int main(void)
     check_events();
     check_bounds();
     check_address_arguments();
+    check_file_lines();
+    check_file_arguments();
     while (read_input(&input)) {
         inputs++;
         check_lines(input);
         check_reply(input);
         check_quoted(input);
         check_addresses(input);
+        check_file_name(input);
         check_exchange(input);
         free_area(input);
     }

@@ -1,7 +1,8 @@
 /*
  * Measures how much memory the calls hold at once. It has to be none; for a line of a log and an
- * address at most three times its text and 32 bytes; and for received replies at most forty times
- * their bytes and 100, whatever a server sends. Searches all memory that unftp_log_line asks for,
+ * address at most three times its text and 32 bytes; for a line of a file at most three times the
+ * line and 300 bytes; and for received replies at most forty times their bytes and 100, whatever a
+ * server sends. Searches all memory that unftp_log_line asks for,
  * also behind the end of what a buffer holds, for what a line hides. Prints how many calls it made,
  * or which held more or held a secret. It is linked with --wrap=malloc, --wrap=realloc and
  * --wrap=free.
@@ -201,6 +202,24 @@ static void write_addresses(void)
     }
 }
 
+static void write_file_lines(void)
+{
+    static const struct unftp_file FULL = {UINT64_MAX, 253402207200, 1, UNFTP_KIND_LINK, 0777,
+                                           UINT32_MAX, UINT32_MAX, UINT32_MAX},
+                                   LEAST = {0, 0, 0, 0, 0, 0, 0, 0};
+    static char name[LONGEST];
+    size_t len;
+
+    memset(name, 'a', sizeof name);
+    for (size_t count = 0; count <= LONGEST; count += count < 1000 ? 1 : LONGEST - 1000) {
+        const struct unftp_file *file = count % 2 == 0 ? &FULL : &LEAST;
+        unftp_facts_line(file, name, count, out, sizeof out, &len);
+        expect("unftp_facts_line", count, 3 * len + 300);
+        unftp_list_line(file, 0, name, count, out, sizeof out, &len);
+        expect("unftp_list_line", count, 3 * len + 300);
+    }
+}
+
 int main(void)
 {
     static const char BYTES[] = {'a', '1', '-', '"', ' ', '\n', '\r', '\0', '\x01', '\xe9'};
@@ -214,6 +233,7 @@ int main(void)
     search_for_secrets();
     read_hostile_replies();
     write_addresses();
+    write_file_lines();
     printf("%zu calls\n", calls);
     return EXIT_SUCCESS;
 }

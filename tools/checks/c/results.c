@@ -18,6 +18,8 @@ typedef char client[
     offsetof(struct unftp_client, agreed) == 3 * sizeof(uint64_t) + 2 * sizeof(uint32_t) ? 1 : -1];
 typedef char login[sizeof(struct unftp_login) == sizeof(uint32_t) ? 1 : -1];
 typedef char address[offsetof(struct unftp_address, port) == sizeof(size_t) ? 1 : -1];
+typedef char file[
+    sizeof(struct unftp_file) == 2 * sizeof(uint64_t) + 6 * sizeof(uint32_t) ? 1 : -1];
 
 int main(void)
 {

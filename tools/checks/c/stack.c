@@ -51,6 +51,8 @@ enum {
     LOGIN_REPLY,
     READ_ADDRESS,
     WRITE_ADDRESS,
+    FACTS_LINE,
+    LIST_LINE,
     VERSION,
     CALLS
 };
@@ -85,6 +87,8 @@ static const char *const names[CALLS] = {
     "unftp_login_reply",
     "unftp_read_address",
     "unftp_write_address",
+    "unftp_facts_line",
+    "unftp_list_line",
     "unftp_version",
 };
 static size_t most[CALLS];
@@ -142,6 +146,18 @@ static void call_with_address(int name, struct bytes input, size_t room)
         unftp_write_address(form, host, host_len, (uint32_t)(inputs % 65536), area.at, room, &len);
 }
 
+/* Writes a line of a file with this name, with all of its facts, of the next kind at each input. */
+static void call_with_file(int name, struct bytes input, size_t room)
+{
+    struct unftp_file file = {UINT64_MAX, 253402207200, 1, (uint32_t)(inputs % 7), 0777, UINT32_MAX,
+                              UINT32_MAX, UINT32_MAX};
+
+    if (name == FACTS_LINE)
+        unftp_facts_line(&file, input.at, input.len, area.at, room, &len);
+    else
+        unftp_list_line(&file, (int64_t)inputs, input.at, input.len, area.at, room, &len);
+}
+
 static void call(int name, struct bytes input, size_t room)
 {
     static const char shown[] = "RETR a";
@@ -168,6 +184,7 @@ static void call(int name, struct bytes input, size_t room)
         unftp_log_exchange(shown, sizeof shown - 1, input.at, input.len, area.at, room, &len);
         break;
     case READ_ADDRESS: case WRITE_ADDRESS: call_with_address(name, input, room); break;
+    case FACTS_LINE: case LIST_LINE: call_with_file(name, input, room); break;
     case VERSION: unftp_version(); break;
     default: call_with_state(name, input, room); break;
     }
@@ -219,7 +236,7 @@ static void *make_calls(void *unused)
 
     while (read_input(&input)) {
         inputs++;
-        area = area_of(4 * input.len + 64);
+        area = area_of(4 * input.len + 128);
         for (int name = 0; name < CALLS; name++) {
             measure(name, input, 0);
             measure(name, input, area.len);
