@@ -25,6 +25,8 @@ pub enum Error {
     ReplyTooLong,
     /// As many lines were sent as 64 bits count.
     TooManyCommands,
+    /// The name of a file has a carriage return or a line feed, so that it is in no line.
+    InvalidName,
 }
 
 impl Error {
@@ -35,14 +37,15 @@ impl Error {
             ffi::NO_LINE => Error::NoLine,
             ffi::MORE => Error::IncompleteReply,
             ffi::MALFORMED => Error::MalformedReply,
-            // of unftp_log_exchange: unftp_write_address is only called so that it doesn't return it
+            // of unftp_log_exchange: unftp_write_address is only called so that it doesn't return
+            // it, and of the line of a file it is another error
             ffi::INVALID_ARGUMENT => Error::NotPrintable,
             _ => match Refusal::of_status(status) {
                 Some(refusal) => Error::Refused(refusal),
                 None => unreachable!(
                     "`reply_bytes`, `IsCanonical`, `IsForwardedLine`, `IsExchangeLine`, \
-                     `IsWrittenBy` and `or_invalid_eol` leave no status {status} for a code from \
-                     100 to 599 and an address of its form's length"
+                     `IsWrittenBy`, `IsNoLine` and `or_invalid_eol` leave no status {status} for a \
+                     code from 100 to 599 and an address of its form's length"
                 ),
             },
         }
@@ -61,6 +64,7 @@ impl Display for Error {
             Error::NotPrintable => f.write_str("not printable"),
             Error::ReplyTooLong => f.write_str("reply too long"),
             Error::TooManyCommands => f.write_str("too many commands"),
+            Error::InvalidName => f.write_str("carriage return or line feed in a name"),
         }
     }
 }

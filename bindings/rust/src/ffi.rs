@@ -91,6 +91,19 @@ pub(crate) struct Client {
     pub(crate) taken: u32,
 }
 
+/// `struct unftp_file`.
+#[repr(C)]
+pub(crate) struct File {
+    pub(crate) size: u64,
+    pub(crate) modified: i64,
+    pub(crate) has_modified: u32,
+    pub(crate) kind: u32,
+    pub(crate) mode: u32,
+    pub(crate) links: u32,
+    pub(crate) uid: u32,
+    pub(crate) gid: u32,
+}
+
 /// `struct unftp_login`.
 #[repr(C)]
 #[derive(Clone, Debug, Default)]
@@ -283,6 +296,27 @@ extern "C" {
         ip: *const u8,
         ip_len: usize,
         port: u32,
+        out: *mut u8,
+        out_room: usize,
+        len: *mut usize,
+    ) -> u32;
+
+    #[cfg_attr(not(feature = "system"), link_name = own_name!("facts_line"))]
+    fn unftp_facts_line(
+        file: *const File,
+        name: *const u8,
+        name_len: usize,
+        out: *mut u8,
+        out_room: usize,
+        len: *mut usize,
+    ) -> u32;
+
+    #[cfg_attr(not(feature = "system"), link_name = own_name!("list_line"))]
+    fn unftp_list_line(
+        file: *const File,
+        now: i64,
+        name: *const u8,
+        name_len: usize,
         out: *mut u8,
         out_room: usize,
         len: *mut usize,
@@ -713,6 +747,32 @@ pub(crate) fn write_address(form: u32, ip: &[u8], port: u16, out: &mut [u8]) -> 
             out.len(),
             &mut len,
         )
+    };
+    (status, len)
+}
+
+/// Calls `unftp_facts_line`: what it returns, and the length.
+pub(crate) fn facts_line(file: &File, name: &[u8], out: &mut [u8]) -> (u32, usize) {
+    check_version();
+    let mut len = 0;
+    // SAFETY: no pointer is null, since each is of a reference, and each length is that of the
+    // slice beside it. The file has the header's form. Nothing overlaps: `out` is mutably borrowed,
+    // and `len` is a variable here.
+    let status = unsafe {
+        unftp_facts_line(file, name.as_ptr(), name.len(), out.as_mut_ptr(), out.len(), &mut len)
+    };
+    (status, len)
+}
+
+/// Calls `unftp_list_line`: what it returns, and the length.
+pub(crate) fn list_line(file: &File, now: i64, name: &[u8], out: &mut [u8]) -> (u32, usize) {
+    check_version();
+    let mut len = 0;
+    // SAFETY: no pointer is null, since each is of a reference, and each length is that of the
+    // slice beside it. The file has the header's form. Nothing overlaps: `out` is mutably borrowed,
+    // and `len` is a variable here.
+    let status = unsafe {
+        unftp_list_line(file, now, name.as_ptr(), name.len(), out.as_mut_ptr(), out.len(), &mut len)
     };
     (status, len)
 }

@@ -80,6 +80,9 @@
     doc = "A server's [`DataPort`] decides it, makes the replies and opens the connection."
 )]
 //!
+//! [`list_line`] and [`facts_line`] are the lines of a file in the listings of LIST and MLSD, and
+//! [`Reply::facts`] is the reply to MLST.
+//!
 //! # Linking
 //!
 //! The machine code is assembly text that Rattle's toolchain made of the proved library, for Linux on
@@ -137,6 +140,7 @@ mod ftp_client;
 #[cfg(feature = "tokio-util")]
 mod line_codec;
 mod lines;
+mod listing;
 mod log;
 mod login;
 mod parameters;
@@ -174,6 +178,7 @@ pub use ftp_client::{Answer, ClientError, FtpClient};
 #[cfg(feature = "tokio-util")]
 pub use line_codec::{FtpLineCodec, OwnedLine};
 pub use lines::LINE_LIMIT;
+pub use listing::{facts_line, list_line, FileKind, FileStatus};
 pub use log::{log_exchange, log_line, LogLine};
 pub use login::{Login, LoginStep};
 pub use parameters::{AuthParam, ModeParam, Opt, ProtParam, StruParam};
