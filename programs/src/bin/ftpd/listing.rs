@@ -8,17 +8,14 @@ use std::ffi::OsStr;
 use std::fmt::Write;
 use std::io;
 use std::os::unix::ffi::OsStrExt;
+use std::time::SystemTime;
 use time::format_description::FormatItem;
 use time::macros::format_description;
-use time::{Duration, OffsetDateTime, PrimitiveDateTime};
+use time::{OffsetDateTime, PrimitiveDateTime};
+use unftp_control::{list_line, FileKind, FileStatus};
 
-const RECENT: &[FormatItem] =
-    format_description!("[month repr:short] [day padding:space] [hour]:[minute]");
-const OLDER: &[FormatItem] = format_description!("[month repr:short] [day padding:space]  [year]");
 /// As MDTM, MFMT and the fact `modify` write a time (RFC 3659, section 2.3).
 const TIME_VALUE: &[FormatItem] = format_description!("[year][month][day][hour][minute][second]");
-/// So old a file is listed with the year in place of the time.
-const HALF_A_YEAR: Duration = Duration::days(182);
 /// How many bytes of a listing are made at a time.
 const PART: usize = 32 * 1024;
 
@@ -135,7 +132,7 @@ pub struct Listing {
     path: FilePath,
     form: Form,
     rights: Rights,
-    now: OffsetDateTime,
+    now: SystemTime,
     entries: Entries,
     /// What is before each name of NLST, so that RETR takes it (RFC 959, section 4.1.3).
     prefix: Vec<u8>,
@@ -171,7 +168,7 @@ impl Listing {
         } else {
             Entries::One(Some(Box::new(facts)))
         };
-        let (now, pattern) = (OffsetDateTime::now_utc(), is_pattern.then(|| last.to_vec()));
+        let (now, pattern) = (SystemTime::now(), is_pattern.then(|| last.to_vec()));
         Ok(Listing { folder, path, form, rights, now, entries, prefix, pattern })
     }
 
@@ -226,7 +223,7 @@ impl Listing {
     fn line(&self, name: &[u8], facts: Option<&Stat>, part: &mut Vec<u8>) {
         let before = match (&self.form, facts) {
             (Form::Name, _) | (_, None) => self.prefix.clone(),
-            (Form::Long, Some(facts)) => long(facts, self.now).into_bytes(),
+            (Form::Long, Some(facts)) => long(facts, self.now),
             (Form::Facts(shown), Some(facts)) => fact_list(shown, facts, self.rights).into_bytes(),
         };
         part.extend_from_slice(&[&before, name, b"\r\n"].concat());
@@ -281,33 +278,37 @@ pub fn fact_list(shown: &[Fact], facts: &Stat, rights: Rights) -> String {
     list
 }
 
-/// What `ls -l` has before a name, in UTC, and a space.
-fn long(facts: &Stat, now: OffsetDateTime) -> String {
+/// What `ls -l` has before a name, in UTC, and a space. The name is none of this line, since it may
+/// have a carriage return.
+fn long(facts: &Stat, now: SystemTime) -> Vec<u8> {
     let kind = match FileType::from_raw_mode(facts.st_mode) {
-        FileType::Directory => 'd',
-        FileType::Symlink => 'l',
-        FileType::Fifo => 'p',
-        FileType::Socket => 's',
-        FileType::CharacterDevice => 'c',
-        FileType::BlockDevice => 'b',
-        _ => '-',
+        FileType::Directory => FileKind::Directory,
+        FileType::Symlink => FileKind::Link,
+        FileType::Fifo => FileKind::Pipe,
+        FileType::Socket => FileKind::Socket,
+        FileType::CharacterDevice => FileKind::CharacterDevice,
+        FileType::BlockDevice => FileKind::BlockDevice,
+        _ => FileKind::File,
     };
-    let modified = modified(facts).unwrap_or(OffsetDateTime::UNIX_EPOCH);
-    let is_recent = modified <= now && now - modified < HALF_A_YEAR;
-    let date = modified.format(if is_recent { RECENT } else { OLDER }).unwrap_or_default();
-    let (mode, links, size) = (mode_text(facts.st_mode), facts.st_nlink, facts.st_size);
-    format!("{kind}{mode} {links:>3} ftp      ftp      {size:>12} {date} ")
-}
-
-/// The nine letters of a mode.
-fn mode_text(mode: u32) -> String {
-    let letters = "rwxrwxrwx".chars().enumerate();
-    letters.map(|(place, letter)| if mode >> (8 - place) & 1 == 1 { letter } else { '-' }).collect()
+    let status = FileStatus {
+        kind,
+        mode: facts.st_mode,
+        links: u32::try_from(facts.st_nlink).unwrap_or(u32::MAX),
+        // its numbers mean nothing to a client
+        uid: 0,
+        gid: 0,
+        size: u64::try_from(facts.st_size).unwrap_or(0),
+        modified: modified(facts).map(SystemTime::from),
+    };
+    let mut line = list_line(&status, now, b"").unwrap_or_default();
+    line.truncate(line.len().saturating_sub(b"\r\n".len()));
+    line
 }
 
 #[cfg(test)]
 mod tests {
     use super::*;
+    use std::time::Duration;
 
     #[test]
     fn patterns() {
@@ -343,8 +344,23 @@ mod tests {
     }
 
     #[test]
-    fn modes() {
-        assert_eq!(mode_text(0o100644), "rw-r--r--");
-        assert_eq!(mode_text(0o40751), "rwxr-x--x");
+    fn files_are_listed_as_by_ls() -> io::Result<()> {
+        let mut facts = rustix::fs::fstat(std::fs::File::open("/dev/null")?)?;
+        (facts.st_mode, facts.st_nlink, facts.st_size) = (0o100644, 1, 1234);
+        facts.st_mtime = 1_701_432_000;
+        let noon = SystemTime::UNIX_EPOCH + Duration::from_secs(1_701_432_000);
+        let half_a_year = Duration::from_secs(182 * 24 * 60 * 60);
+        for (now, date) in [
+            (noon, "Dec  1 12:00"),
+            (noon + half_a_year - Duration::from_nanos(1), "Dec  1 12:00"),
+            (noon + half_a_year, "Dec  1  2023"),
+            (noon - Duration::from_nanos(1), "Dec  1  2023"),
+        ] {
+            let line = format!("-rw-r--r--   1 ftp      ftp              1234 {date} ");
+            assert_eq!(long(&facts, now), line.as_bytes());
+        }
+        facts.st_mode = 0o40751;
+        assert!(long(&facts, noon).starts_with(b"drwxr-x--x "));
+        Ok(())
     }
 }
