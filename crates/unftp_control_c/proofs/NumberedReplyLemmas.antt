@@ -1,24 +1,24 @@
 -- Each event has a reply by its number, and it is the usual one.
-use Rattle.std.proofs.Common.{◌≡◌, ◌≢◌, ℕ, ◌≤◌, ◌==◌, if◌then◌else◌, Bool, true, false, [], length, Option, Some, None, Ok, Err, refl, sym, ap, subst, ◌∙◌, arith}
+use Rattle.std.proofs.Common.{◌≡◌, ◌≢◌, ℕ, ◌≤◌, ◌==◌, if◌then◌else◌, Bool, true, false, [], length, Option, Some, None, Err, refl, ap, subst, ◌∙◌, arith}
 use Rattle.std.specs.Fmt.{digits}
 use Rattle.std.specs.Prelude.{nat_le}
 use Rattle.std.proofs.lemmas.Bool.{and_parts, cond_both, eqb-true, leb-true}
 use Rattle.unftp_control_defs.specs.Bytes.{Bytes}
-use Rattle.unftp_control_defs.specs.Events.{FaultKind, FaultSource, FtpEvent, Command, Io, LineTooLong, NoSource, OutOfMemory, Parse, Refused, Utf8}
-use Rattle.unftp_control_defs.specs.FtpCommand.{FtpCommand, User, InvalidCommand, InvalidEol, InvalidUtf8, said}
+use Rattle.unftp_control_defs.specs.Events.{FaultKind, FaultSource, FtpEvent, Command, LineTooLong, OutOfMemory, Parse, Refused}
+use Rattle.unftp_control_defs.specs.FtpCommand.{FtpCommand, User, InvalidCommand, InvalidEol, InvalidUtf8}
 use Rattle.unftp_control_defs.specs.FtpReply.{FtpReply, IsReadable, encoded}
 use Rattle.unftp_control_defs.specs.Said.{command_number}
-use Rattle.unftp_control_commands.specs.UsualReplies.{command_reply, fault_reply, long_line, no_memory, refusal_reply, reply_by_number, source_reply, usual_reply}
+use Rattle.unftp_control_commands.specs.UsualReplies.{fault_reply, long_line, no_memory, refusal_reply, reply_by_number, source_reply, usual_reply}
 use Rattle.unftp_control_commands.proofs.UsualReplyLemmas.{command_reply-number, readable, reply_by_number-readable, reply_by_number-short}
 use Rattle.unftp_control_login.specs.Gate.{LogsIn, Refuses, decision_at, logged_in, login_needed, name_needed, not_accepted, password_in, password_needed}
 use Rattle.unftp_control_login.specs.Login.{Accounts}
 use Rattle.unftp_control_login.specs.declared.stage.LoginStep.{LoginStep}
 use Rattle.unftp_control_login.specs.declared.stage.LoginStep.TheVariants.{AskAccounts, NeedLogin, NeedName, NeedPassword, PassOn}
-use Rattle.unftp_control_c.specs.Areas.{Made, filled, written}
+use Rattle.unftp_control_c.specs.Areas.{written}
 use Rattle.unftp_control_c.specs.Logins.{step_number}
 use Rattle.unftp_control_c.specs.Next.{given_for}
-use Rattle.unftp_control_c.specs.NumberedReplies.{encoded_or_invalid, event_reply, is_command_number, login_bytes, own_reply, refusal_by_number, step_of, step_reply, usual_bytes}
-use Rattle.unftp_control_c.specs.Numbers.{fault_status, source_status, status_number, status_of_kind}
+use Rattle.unftp_control_c.specs.NumberedReplies.{encoded_or_invalid, event_reply, is_command_number, own_reply, refusal_by_number, step_of, step_reply, usual_bytes}
+use Rattle.unftp_control_c.specs.Numbers.{source_status, status_number, status_of_kind}
 use Rattle.unftp_control_c.specs.declared.status.Status.{Status}
 use Rattle.unftp_control_c.specs.declared.status.Status.TheVariants.{InvalidArgument}
 use Rattle.unftp_control_c.proofs.AreaLemmas.{filled_length}
