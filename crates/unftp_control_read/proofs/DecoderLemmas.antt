@@ -1,6 +1,6 @@
 -- The pending bytes of a reply decoder, of which a search sees those that a reply may have.
-use Rattle.std.proofs.Common.{◌≡◌, append-nil, ℕ, zero, suc, ◌<◌, ◌≤◌, Option, Some, None, Ok, Err, Result, List, [], ◌∷◌, ◌++◌, length, take, drop, refl, sym, ap, subst, ◌∙◌, arith, length-append}
-use Rattle.std.specs.Prelude.{IfSome}
+use Rattle.std.proofs.Common.{◌≡◌, append-nil, ℕ, zero, suc, ◌+◌, ◌<◌, ◌≤◌, Option, Some, None, Ok, Err, Result, List, [], ◌∷◌, ◌++◌, length, take, drop, refl, sym, ap, subst, ◌∙◌, arith, length-append}
+use Rattle.std.specs.Prelude.{◌≢◌, IfErr, IfSome, max}
 use Rattle.std.proofs.lemmas.List.{take_all, drop-append-le, length-take}
 use Rattle.unftp_control_defs.specs.Bytes.{Bytes}
 use Rattle.unftp_control_defs.specs.Input.{InputState}
@@ -10,11 +10,12 @@ use Rattle.unftp_control_defs.proofs.ReplyLemmas.{FrontReply-unique, front_is_fo
 use Rattle.unftp_control_defs.proofs.ReplyLimitLemmas.{FrontReply-within, IsMalformed-within, IsPartial-within}
 use Rattle.unftp_control_read.specs.Reading.{ReturnsRefusal}
 use Rattle.unftp_control_read.specs.Search.{IsSearched}
-use Rattle.unftp_control_read.specs.ReplyDecoding.{HasError, IsReplyDecoder, IsReturned, NextReply, PendingReplies, TakesNextReply, error_of}
-use Rattle.unftp_control_read.specs.Receiving.{AppendsPiece}
-use Rattle.unftp_control_read.specs.declared.errors.ReceiveError.{ReceiveError}
-use Rattle.unftp_control_read.specs.declared.reply.ReceivedReply.{ReceivedReply}
 use Rattle.unftp_control_read.specs.declared.search.Search.{Search}
+use Rattle.unftp_control_read.specs.ReplyDecoding.{HasError, IsReplyDecoder, IsReturned, NextReply, PendingReplies, TakesNextReply, error_of, pending_replies}
+use Rattle.unftp_control_read.specs.Receiving.{AppendsPending, AppendsPiece, after_failure}
+use Rattle.unftp_control_read.specs.declared.errors.ReceiveError.{ReceiveError}
+use Rattle.unftp_control_read.specs.declared.errors.ReceiveError.TheVariants as receive
+use Rattle.unftp_control_read.specs.declared.reply.ReceivedReply.{ReceivedReply}
 use Rattle.unftp_control_read.specs.declared.errors.NextReplyError.{NextReplyError}
 use Rattle.unftp_control_read.specs.declared.errors.NextReplyError.TheVariants as next
 use Rattle.unftp_control_read.specs.declared.ReadReplyError.{ReadReplyError}
@@ -34,7 +35,7 @@ within_more : (limit : Option ℕ) (bytes piece : Bytes)
 within_more None bytes piece = (piece, refl)
 within_more (Some limit) bytes piece = take_more limit bytes piece
 
-searched_more : (limit : Option ℕ) (bytes piece : Bytes) (s : Search)
+pub searched_more : (limit : Option ℕ) (bytes piece : Bytes) (s : Search)
     → IsSearched (within_limit limit bytes) s → IsSearched (within_limit limit (bytes ++ piece)) s
 searched_more limit bytes piece s h =
     let m = within_more limit bytes piece in
@@ -72,12 +73,12 @@ all_within (Some limit) bytes short =
 
 -- ---- what is taken says what else is not
 
-long_is_part : (limit : Option ℕ) (bytes : Bytes) → IsTooLongReply limit bytes
+pub long_is_part : (limit : Option ℕ) (bytes : Bytes) → IsTooLongReply limit bytes
     → IsPartial (within_limit limit bytes)
 long_is_part (Some limit) bytes h = h.1
 long_is_part None bytes h = absurd h
 
-short_is_not_long : (limit : Option ℕ) (bytes : Bytes)
+pub short_is_not_long : (limit : Option ℕ) (bytes : Bytes)
     → IfSome limit (λ limit. length bytes < limit) → ¬ IsTooLongReply limit bytes
 short_is_not_long None bytes short long = long
 short_is_not_long (Some limit) bytes short long = omega (arith, short, long.0)
@@ -147,3 +148,31 @@ module _ {limit : Option ℕ} {s : Search} {buf : Bytes} {start held capacity : 
     decoder_read (Err error) room h =
         let more = after_piece [] (h.0 ∙ sym (append-nil buf)) in
         decoder_more well after [] start more.0 more.1 room
+
+-- what is read into the buffer is appended to the pending bytes
+pub pending_read : (limit : Option ℕ) (buf after : Bytes) (start held held' most : ℕ)
+    → start ≤ length buf → held' ≡ max held (length buf + 4096)
+    → (input input' : InputState) (result : Result ℕ ReceiveError)
+    → IfErr result (λ error. error ≢ receive.OutOfMemory)
+    → AppendsPiece most buf after input input' result
+    → AppendsPending most (pending_replies limit (drop start buf) (length buf) held)
+    (pending_replies limit (drop start after) (length after) held') input input' result
+pending_read limit buf after start held held' most start_in held_is input input' (Ok n) some h = (
+  h.0,
+  (λ i. pending_replies limit ((ap (drop start) h.1 ∙ drop-append-le start buf h.0 start_in) i)
+      ((ap length h.1 ∙ length-append buf h.0) i) (held_is i)),
+  h.2,
+  h.3,
+  h.4,
+  h.5,
+  h.6,
+  h.7,
+)
+pending_read limit buf after start held held' most start_in held_is input input' (Err error) some h =
+    (by_error error some, h.1)
+  where
+    by_error : (error : ReceiveError) → error ≢ receive.OutOfMemory
+        → pending_replies limit (drop start after) (length after) held'
+        ≡ after_failure (pending_replies limit (drop start buf) (length buf) held) error
+    by_error receive.OutOfMemory some = absurd (some refl)
+    by_error _ some = λ i. pending_replies limit (drop start (h.0 i)) (length (h.0 i)) (held_is i)

@@ -1,5 +1,5 @@
 -- What the places of CR LF say.
-use Rattle.std.proofs.Common.{Option, None, Some, IfSome, MatchOption, Bor, ◌≡◌, ◌≢◌, ℕ, zero, suc, [], ◌∷◌, ◌++◌, length, take, ap, subst, ◌∙◌, arith}
+use Rattle.std.proofs.Common.{Option, None, Some, IfNone, IfSome, MatchOption, Bor, ◌≡◌, ◌≢◌, ℕ, zero, suc, [], ◌∷◌, ◌++◌, length, take, ap, subst, ◌∙◌, arith}
 use Rattle.std.proofs.Math.Seq.{take-length}
 use Rattle.unftp_control_defs.specs.Bytes.{Bytes, SP}
 use Rattle.unftp_control_defs.specs.ReplyReader.{LacksCrlf}
@@ -25,3 +25,7 @@ pub after_digits : (digits : Bytes) {line : Bytes} (rest : Bytes) (r : Option (B
     → IfSome r (λ text. line ≡ digits ++ SP ∷ text.now)
 after_digits digits rest (Some text) e h = e ∙ ap (λ r. digits ++ r) h
 after_digits digits rest None e h = tt
+
+pub if_none : {A : Type 0} (r : Option A) {P Q : Type 0} → (P → Q) → IfNone r P → IfNone r Q
+if_none None weaker h = weaker h
+if_none (Some x) weaker h = tt

@@ -1,35 +1,35 @@
 -- A search for the reply at the start that goes on where it stopped.
-use Rattle.std.proofs.Common.{◌≡◌, ℕ, suc, ◌-◌, ◌≤◌, Option, Some, None, List, [], ◌∷◌, ◌++◌, length, take, drop, refl, sym, ap, subst, ◌∙◌, append_assoc, append-nil, length-append, drop_at, arith, option_map}
+use Rattle.std.proofs.Common.{◌≡◌, ℕ, suc, ◌-◌, ◌≤◌, ◌==◌, Bool, true, false, if◌then◌else◌, Option, Some, None, List, [], ◌∷◌, ◌++◌, length, take, drop, refl, sym, ap, subst, ◌∙◌, append_assoc, append-nil, length-append, length-drop, drop_at, arith, option_map}
 use Rattle.std.proofs.lemmas.List.{take-append-le, take-append-drop, drop-append-le, get_or_append_left}
-use Rattle.unftp_control_defs.specs.Bytes.{Bytes, SP, crlf}
+use Rattle.unftp_control_defs.specs.Bytes.{Bytes, SP, DASH, crlf}
 use Rattle.unftp_control_defs.specs.ReplyReader.{LacksCrlf, with_crlf, GoesOn, FrontReply, IsPartial, IsMalformed}
-use Rattle.unftp_control_defs.specs.ComputedReply.{Opening, Nothing, One, Several, opening, cuts_of, last_text, later_by, later_lines, Whole, front_after, front_by, front_at, front_of}
+use Rattle.unftp_control_defs.specs.ComputedReply.{Opening, Nothing, One, Several, code_of, opening, opening_by, cuts_of, last_text, later_by, later_lines, Whole, front_after, front_by, front_at, front_of}
 use Rattle.unftp_control_defs.proofs.CrlfLemmas.{cuts_of-with_crlf, cuts_of-none}
 use Rattle.unftp_control_defs.proofs.ReplyLemmas.{last_text-of, last_text-none, FrontReply-front_of, IsMalformed-front_of, IsPartial-front_of, front_of-line, front_within}
 use Rattle.unftp_control_read.specs.Reading.{ReturnsFound}
-use Rattle.unftp_control_read.specs.Search.{LacksCrlfUpTo, IsBegun, IsSearched, IsAtLine}
-use Rattle.unftp_control_read.specs.declared.FoundReply.TheVariants as found
+use Rattle.unftp_control_read.specs.Search.{GoesOnIn, LacksCrlfUpTo, IsBegun, IsSearched, IsAtLine, begun_at}
 use Rattle.unftp_control_read.specs.declared.search.Search.{Search}
+use Rattle.unftp_control_read.specs.declared.FoundReply.TheVariants as found
 
 -- ---- how far it has come
 
-pub nothing_searched : (bytes : Bytes)
-    → IsSearched bytes (record { opened = None; line = 0; searched = 0 })
+pub nothing_searched : (bytes : Bytes) → IsSearched bytes (begun_at 0 0)
 nothing_searched bytes = record {
-  line_within = omega arith;
+  within = (omega arith, omega arith);
   begun = refl;
-  within = omega arith;
   lacks = λ k less. absurd (omega (arith, less));
 }
 
 -- more bytes at the end change nothing
-begun-append : (bytes piece : Bytes) (opened : Option ℕ) (rest : Bytes) → IsBegun bytes opened rest
-    → IsBegun (bytes ++ piece) opened (rest ++ piece)
-begun-append bytes piece None rest h = ap (λ b. b ++ piece) h
-begun-append bytes piece (Some code) rest (three, lines, front) =
+begun-append : (bytes piece : Bytes) (is_first : Bool) (rest : Bytes)
+    → IsBegun is_first bytes rest → IsBegun is_first (bytes ++ piece) (rest ++ piece)
+begun-append bytes piece true rest h = ap (λ b. b ++ piece) h
+begun-append bytes piece false rest (code, three, opens, lines, front) =
     let same : take 3 (bytes ++ piece) ≡ take 3 bytes = take-append-le 3 bytes piece three
     in (
+      code,
       omega (arith, three, length-append bytes piece),
+      ap code_of same ∙ opens,
       lines,
       λ more. ap front_of (append_assoc bytes piece more) ∙ front (piece ++ more)
           ∙ (λ i. front_after code lines
@@ -39,28 +39,30 @@ begun-append bytes piece (Some code) rest (three, lines, front) =
 pub still_searched : (bytes piece : Bytes) (s : Search) → IsSearched bytes s
     → IsSearched (bytes ++ piece) s
 still_searched bytes piece s h =
+    let line_within : s.line ≤ length bytes = omega (arith, h.within.0, h.within.1) in
     let rest : drop s.line (bytes ++ piece) ≡ drop s.line bytes ++ piece =
-    drop-append-le s.line bytes piece h.line_within in
+    drop-append-le s.line bytes piece line_within in
+    let searched : s.offset - s.line ≤ length (drop s.line bytes) =
+    omega (arith, h.within.0, h.within.1, length-drop s.line bytes) in
     record {
-      line_within = omega (arith, h.line_within, length-append bytes piece);
-      begun = subst (IsBegun (bytes ++ piece) s.opened) (sym rest)
-          (begun-append bytes piece s.opened (drop s.line bytes) h.begun);
-      within = omega (arith, h.within, ap length rest, length-append (drop s.line bytes) piece);
-      lacks = subst (LacksCrlfUpTo s.searched) (sym rest) (λ k less is_cr is_lf. h.lacks k less
-          (sym (get_or_append_left (drop s.line bytes) piece 0 k (omega (arith, less, h.within)))
+      within = (h.within.0, omega (arith, h.within.1, length-append bytes piece));
+      begun = subst (IsBegun (s.line == 0) (bytes ++ piece)) (sym rest)
+          (begun-append bytes piece (s.line == 0) (drop s.line bytes) h.begun);
+      lacks = subst (LacksCrlfUpTo (s.offset - s.line)) (sym rest) (λ k less is_cr is_lf. h.lacks k less
+          (sym (get_or_append_left (drop s.line bytes) piece 0 k (omega (arith, less, searched)))
           ∙ is_cr)
-          (sym (get_or_append_left (drop s.line bytes) piece 0 (suc k) (omega (arith, less, h.within)))
+          (sym (get_or_append_left (drop s.line bytes) piece 0 (suc k) (omega (arith, less, searched)))
           ∙ is_lf));
     }
 
 -- the whole rest
-pub all_searched : (bytes : Bytes) (opened : Option ℕ) (rest : Bytes) → IsBegun bytes opened rest
-    → LacksCrlf rest → IsPartial bytes
-all_searched bytes None rest h lacks =
+pub all_searched : (bytes : Bytes) (is_first : Bool) (rest : Bytes)
+    → IsBegun is_first bytes rest → LacksCrlf rest → IsPartial bytes
+all_searched bytes true rest h lacks =
     IsPartial-front_of bytes (ap front_at (ap cuts_of (sym h) ∙ cuts_of-none _ lacks))
-all_searched bytes (Some code) rest h lacks = IsPartial-front_of bytes
-    (ap front_of (sym (append-nil bytes)) ∙ h.2 []
-    ∙ ap (λ cuts. front_after code h.1 (later_lines (take 3 bytes) cuts))
+all_searched bytes false rest (code, three, opens, lines, front) lacks = IsPartial-front_of bytes
+    (ap front_of (sym (append-nil bytes)) ∙ front []
+    ∙ ap (λ cuts. front_after code lines (later_lines (take 3 bytes) cuts))
     (ap cuts_of (append-nil rest) ∙ cuts_of-none rest lacks))
 
 -- where the bytes after a line begin
@@ -83,8 +85,22 @@ found_whole : {bytes : Bytes} {code used : ℕ} {lines : List Bytes}
 found_whole {bytes} {code} {used} {lines} front =
     let within = front_within bytes code lines used front in ((lines, front), within.0, within.1)
 
+-- a first line of several begins with their code
+opening_code : (read : Option ℕ) (after : Bytes) {code : ℕ} {text : Bytes}
+    → opening_by read after ≡ Several code text → read ≡ Some code
+opening_code None after is = cc
+opening_code (Some code) [] is = cc
+opening_code (Some code) (b ∷ text) is = by_sign (b == SP) (b == DASH) is
+  where
+    by_sign : (space dash : Bool) {m : ℕ} {t : Bytes}
+        → (if space then One code text else (if dash then Several code text else Nothing)) ≡ Several m t
+        → Some code ≡ Some m
+    by_sign true dash is = cc
+    by_sign false true is = cc
+    by_sign false false is = cc
+
 -- the first line
-module _ {bytes line after : Bytes} (h : IsAtLine bytes None line after) where
+module _ {bytes line after : Bytes} (h : IsAtLine bytes true line after) where
   cut : bytes ≡ with_crlf line ++ after
   cut = sym h.begun ∙ h.cut
 
@@ -101,11 +117,13 @@ module _ {bytes line after : Bytes} (h : IsAtLine bytes None line after) where
   first_whole is = found_whole (FrontReply-front_of (first is))
 
   pub first_begins : {code : ℕ} {text : Bytes} → opening line ≡ Several code text
-      → 3 ≤ length line → IsBegun bytes (Some code) after
+      → 3 ≤ length line → GoesOnIn bytes after
   first_begins {code} {text} is three =
       let same : take 3 bytes ≡ take 3 line = ap (take 3) (cut ∙ append_assoc line crlf after)
       ∙ take-append-le 3 line (crlf ++ after) three in (
+        code,
         omega (arith, three, ap length cut, length-append (with_crlf line) after, length-append line crlf),
+        ap code_of same ∙ opening_code (code_of (take 3 line)) (drop 3 line) is,
         text ∷ [],
         λ more. front_of-line line (after ++ more)
             (ap (λ b. b ++ more) cut ∙ append_assoc (with_crlf line) after more) h.is_line
@@ -126,30 +144,41 @@ front_after-more code lines line None = refl
 front_after-more code lines line (Some read) =
     ap (λ read-lines. Whole code read-lines read.1) (sym (append_assoc lines (line ∷ []) read.0))
 
-module _ {bytes : Bytes} {code : ℕ} {line after : Bytes}
-    (h : IsAtLine bytes (Some code) line after) where
+module _ {bytes line after : Bytes} (h : IsAtLine bytes false line after) where
+  abbrev code : ℕ
+  code = h.begun.0
+
+  abbrev lines : List Bytes
+  lines = h.begun.3
+
   abbrev later : Bytes → Option (List Bytes × Bytes)
   later more = later_lines (take 3 bytes) (cuts_of (after ++ more))
 
   at_line : {text : Option Bytes} (more : Bytes) → last_text (take 3 bytes) line ≡ text
       → front_of (bytes ++ more)
-      ≡ front_after code h.begun.1 (later_by text (line, after ++ more) (later more))
-  at_line more is = h.begun.2 more
-      ∙ ap (front_after code h.begun.1) (later_lines-cut (take 3 bytes) line (after ++ more)
+      ≡ front_after code lines (later_by text (line, after ++ more) (later more))
+  at_line more is = h.begun.4 more
+      ∙ ap (front_after code lines) (later_lines-cut (take 3 bytes) line (after ++ more)
       (ap (λ r. r ++ more) h.cut ∙ append_assoc (with_crlf line) after more) h.is_line)
-      ∙ ap (λ text. front_after code h.begun.1 (later_by text (line, after ++ more) (later more))) is
+      ∙ ap (λ text. front_after code lines (later_by text (line, after ++ more) (later more))) is
 
-  pub line_goes_on : GoesOn (take 3 bytes) line → IsBegun bytes (Some code) after
+  pub line_goes_on : GoesOn (take 3 bytes) line → GoesOnIn bytes after
   line_goes_on goes = (
-    h.begun.0,
-    h.begun.1 ++ line ∷ [],
+    code,
+    h.begun.1,
+    h.begun.2,
+    lines ++ line ∷ [],
     λ more. at_line more (last_text-none (take 3 bytes) line goes)
-        ∙ front_after-more code h.begun.1 line (later more),
+        ∙ front_after-more code lines line (later more),
   )
 
-  pub line_ends : (last : Bytes) → line ≡ take 3 bytes ++ SP ∷ last
-      → ReturnsFound bytes (found.Whole code (length bytes - length after))
-  line_ends last is = found_whole (FrontReply-front_of
+  pub line_ends : {m : ℕ} → code_of (take 3 bytes) ≡ Some m → (last : Bytes)
+      → line ≡ take 3 bytes ++ SP ∷ last
+      → ReturnsFound bytes (found.Whole m (length bytes - length after))
+  line_ends {m} opens last is =
+      let both : Some code ≡ Some m = sym h.begun.2 ∙ opens in
+      let same : code ≡ m = cc in
+      found_whole (FrontReply-front_of
       (ap front_of (sym (append-nil bytes))
       ∙ at_line [] (ap (last_text (take 3 bytes)) is ∙ last_text-of (take 3 bytes) last)
-      ∙ ap (Whole code (h.begun.1 ++ last ∷ [])) (append-nil after)))
+      ∙ (λ i. Whole (same i) (lines ++ last ∷ []) (append-nil after i))))

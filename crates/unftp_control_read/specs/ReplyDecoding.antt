@@ -7,8 +7,8 @@ use Rattle.unftp_control_defs.specs.ReplyLimit.{IsTooLongReply, within_limit}
 use Rattle.unftp_control_defs.specs.TakingSteps.{TakesReply}
 use Rattle.unftp_control_read.specs.Reading.{contents}
 use Rattle.unftp_control_read.specs.Search.{IsSearched}
-use Rattle.unftp_control_read.specs.declared.decoder.FirstReply.{FirstReply}
 use Rattle.unftp_control_read.specs.declared.search.Search.{Search}
+use Rattle.unftp_control_read.specs.declared.decoder.FirstReply.{FirstReply}
 use Rattle.unftp_control_read.specs.declared.ReadReplyError.{ReadReplyError}
 use Rattle.unftp_control_read.specs.declared.ReadReplyError.TheVariants as refusal
 use Rattle.unftp_control_read.specs.declared.reply.ReceivedReply.{ReceivedReply}
@@ -105,6 +105,19 @@ FindsFirst limit bytes (Ok (Some reply)) = BeginsWith limit bytes reply.code rep
 FindsFirst limit bytes (Err Malformed) = IsMalformed (within_limit limit bytes)
 FindsFirst limit bytes (Err TooLong) = IsTooLongReply limit bytes
 FindsFirst limit bytes (Err OutOfMemory) = ⊥
+
+-- How many of the n bytes that a reply may have are scanned: those from the offset on, to the end of
+-- the reply that is found, or else all; and then none of them has to be scanned again. A line that
+-- opens no reply is scanned again.
+abbrev pub FindsByScan : Search → ℕ → Result (Option FirstReply) NextReplyError → Search
+    → Type 0
+FindsByScan before n (Ok (Some reply)) after =
+    (after.scanned + before.offset ≡ before.scanned + reply.length) × (reply.length ≤ n)
+FindsByScan before n (Err Malformed) after =
+    after.scanned + before.offset ≤ before.scanned + n
+FindsByScan before n (Err OutOfMemory) after = ⊥
+FindsByScan before n result after =
+    (after.scanned + before.offset ≡ before.scanned + n) × (after.offset ≡ n)
 
 -- what an error means for the pending bytes: memory is asked for only where a complete reply is
 -- there

@@ -5,7 +5,7 @@ ghost use Rattle.unftp_control_defs.specs.ComputedReply.{Whole, cuts_of, front_a
 ghost use Rattle.unftp_control_defs.specs.ReplyReader.{FrontReply, HasFront};
 ghost use Rattle.unftp_control_read.specs.Reading.{contents};
 
-use crate::lines::{last_text, next_line};
+use crate::lines::{first_line, last_text};
 use crate::opening::{AfterCode, opening_of};
 use std::alloc::{AllocError, Global};
 
@@ -15,7 +15,7 @@ pub(crate) fn copy_lines(alloc: Global, bytes: &[u8]) -> Result<Vec<Vec<u8>>, Al
     ensures { IfOk result (λ copied. (code : ℕ) (lines : List Bytes) (used : ℕ)
         → FrontReply bytes.now code lines used → contents copied ≡ lines) }
 {
-    let Some((line, after)) = next_line(bytes, 0) else {
+    let Some((line, after)) = first_line(bytes) else {
         unreachable!()
     };
     let Some(opening) = opening_of(line) else {
@@ -49,7 +49,7 @@ fn copy_several(
 {
     let mut lines = copy_one(alloc, first)?;
     let mut rest = bytes;
-    while let Some((line, after)) = next_line(rest, 0) {
+    while let Some((line, after)) = first_line(rest) {
         if let Some(last) = last_text(digits, line) {
             lines.push(Vec::from_slice(alloc, last)?)?;
             return Ok(lines);

@@ -1,17 +1,19 @@
 //! The pending bytes, and the replies that they begin with.
-ghost use Rattle.std.specs.Prelude.{◌≡◌, ◌+◌, ◌<◌, ◌≤◌, ℕ, List, None, Some, OnOk, OnErr, IfSome, IsTrue, false, drop, length, []};
+ghost use Rattle.std.specs.Prelude.{◌≡◌, ◌+◌, ◌<◌, ◌≤◌, ℕ, List, None, Some, OnOk, OnErr, IfSome, IsTrue, false, drop, length, [], Option, Result};
 ghost use Rattle.unftp_control_defs.specs.Bytes.{Bytes};
 ghost use Rattle.unftp_control_defs.specs.Input.{input_state_of};
 ghost use Rattle.unftp_control_defs.specs.ReplyReader.{FrontReply, IsPartial, IsMalformed};
 ghost use Rattle.unftp_control_defs.specs.ReplyLimit.{IsTooLongReply, within_limit};
 ghost use Rattle.unftp_control_read.specs.ReplyDecoding.{FindsFirst, IsReturned, TakesNextReply, cleared, held_after, no_bytes, settled, pushed};
 ghost use Rattle.unftp_control_read.specs.Receiving.{AppendsPending};
+ghost use Rattle.unftp_control_read.specs.declared.decoder.FirstReply.{FirstReply as RustFirst};
+ghost use Rattle.unftp_control_read.specs.declared.errors.NextReplyError.{NextReplyError as RustError};
 
 use crate::errors::{NextReplyError, ReceiveError};
 use crate::receiving::{add_room, read_after};
 use crate::reply::ReceivedReply;
-use crate::search::Search;
-use crate::{FoundReply, Front, read_front};
+use crate::search::{Search, first_bytes, is_full};
+use crate::{Front, read_front};
 use std::alloc::{AllocError, Global};
 use std::io::Read;
 use std::marker::Model;
@@ -172,17 +174,7 @@ impl ReplyDecoder {
         ensures finds { FindsFirst self.old.limit self.old.bytes result }
         ensures same { self.new ≡ self.old }
     {
-        let searched = first_bytes(self.buffer.pending(), self.limit);
-        match self.search.find_front(searched) {
-            FoundReply::Whole { code, used } => Ok(Some(FirstReply { code, length: used })),
-            FoundReply::Malformed => Err(NextReplyError::Malformed),
-            FoundReply::Partial => {
-                if is_full(searched, self.limit) {
-                    return Err(NextReplyError::TooLong);
-                }
-                Ok(None)
-            }
-        }
+        self.search.find_first(self.buffer.pending(), self.limit)
     }
 
     /// Removes so many bytes from the start of the pending bytes, as those of a reply that was
@@ -228,24 +220,9 @@ impl ReplyDecoder {
     }
 }
 
-/// The bytes that a reply may have: the first `limit` ones, or all.
-fn first_bytes(bytes: &[u8], limit: Option<usize>) -> &[u8]
-    ensures { result.now ≡ within_limit limit bytes.now }
-{
-    match limit {
-        Some(limit) => bytes.split_at(limit.min(bytes.len())).0,
-        None => bytes,
-    }
-}
-
-/// Whether there are as many bytes as a reply may have.
-fn is_full(bytes: &[u8], limit: Option<usize>) -> bool
-    ensures yes { IsTrue result
-        → (most : ℕ) × (limit ≡ Some most) × (most ≤ length bytes.now) }
-    ensures no { result ≡ false → IfSome limit (λ most. length bytes.now < most) }
-{
-    match limit {
-        Some(most) => most <= bytes.len(),
-        None => false,
-    }
-}
+/// One answer is found for the first reply, by whatever search.
+pub fn first_replies_are_one()
+    ensures { (limit : Option ℕ) (bytes : Bytes)
+        (found other : Result (Option RustFirst) RustError)
+        → FindsFirst limit bytes found → FindsFirst limit bytes other → found ≡ other }
+{}

@@ -6,7 +6,8 @@ ghost use Rattle.std.specs.declared.io.Error.{Error as IoError};
 ghost use Rattle.unftp_control_defs.specs.Input.{InputState};
 ghost use Rattle.unftp_control_read.specs.ReplyDecoding.{FindsFirst, HasError, IsReplyDecoder, PendingReplies, TakesNextReply, after_read, cleared, held_after, pending_replies, settled};
 ghost use Rattle.unftp_control_read.specs.Receiving.{FailsToRead, after_failure, held_by_reads};
-ghost use Rattle.unftp_control_read.specs.Search.{IsSearched};
+ghost use Rattle.unftp_control_read.specs.ReplyLines.{FindsLine};
+ghost use Rattle.unftp_control_read.specs.Search.{IsSearched, begun_at};
 ghost use Rattle.unftp_control_read.specs.declared.errors.NextReplyError.{NextReplyError as RustError};
 ghost use Rattle.unftp_control_read.specs.declared.errors.NextReplyError.TheVariants as NextReplyError;
 ghost use Rattle.unftp_control_read.specs.declared.errors.ReceiveError.TheVariants as ReceiveError;
@@ -56,18 +57,15 @@ pub fn reads_fail()
 /// What is so of a decoder: no more is taken than its buffer holds, which has room for what it has
 /// held; and no bytes are passed over that have a line end.
 pub fn decoders_are_so()
-    ensures all_taken { IsReplyDecoder None (record { opened = None; line = 0; searched = 0 })
+    ensures all_taken { IsReplyDecoder None (begun_at 0 0)
         (codes "220 a\r\n") 7 7 7 }
-    ensures more_taken { ¬ IsReplyDecoder None (record { opened = None; line = 0; searched = 0 })
+    ensures more_taken { ¬ IsReplyDecoder None (begun_at 0 0)
         (codes "220 a\r\n") 8 7 7 }
-    ensures less_room { ¬ IsReplyDecoder None (record { opened = None; line = 0; searched = 0 })
+    ensures less_room { ¬ IsReplyDecoder None (begun_at 0 0)
         (codes "220 a\r\n") 7 8 7 }
-    ensures searched { IsSearched (codes "a\r\n")
-        (record { opened = None; line = 0; searched = 2 }) }
-    ensures passed_over { ¬ IsSearched (codes "a\r\n")
-        (record { opened = None; line = 0; searched = 3 }) }
-    ensures line_passed_over { ¬ IsSearched (codes "a\r\n")
-        (record { opened = None; line = 3; searched = 0 }) }
+    ensures searched { IsSearched (codes "a\r\n") (begun_at 0 2) }
+    ensures passed_over { ¬ IsSearched (codes "a\r\n") (begun_at 0 3) }
+    ensures line_passed_over { ¬ IsSearched (codes "a\r\n") (begun_at 3 3) }
 {}
 
 /// Memory lacks only for a complete reply, and never to find one; at an error all bytes stay.
@@ -77,4 +75,20 @@ pub fn errors_are_so()
     ensures found { ¬ FindsFirst (Some 7) (codes "220 a\r\n") (Err NextReplyError.OutOfMemory) }
     ensures dropped { (error : RustError) → ¬ TakesNextReply
         (pending_replies None (codes "220 a\r\n") 7 7) (Err error) (pending_replies None [] 7 7) }
+{}
+
+/// Lines that are found: with the text after the code, or all of a line between the first and the
+/// last; and none where no line is complete.
+pub fn lines_are_found()
+    ensures first { FindsLine (codes "211-a\r\n211 \r\n") 0
+        (Some (record { text_at = 4; text_len = 1; next = 7 })) }
+    ensures last { FindsLine (codes "211-a\r\n211 \r\n") 7
+        (Some (record { text_at = 11; text_len = 0; next = 13 })) }
+    ensures with_code { ¬ FindsLine (codes "211-a\r\n211 \r\n") 0
+        (Some (record { text_at = 0; text_len = 5; next = 7 })) }
+    ensures two_lines { ¬ FindsLine (codes "211-a\r\n211 \r\n") 0
+        (Some (record { text_at = 4; text_len = 7; next = 13 })) }
+    ensures end { FindsLine (codes "220 a\r\n") 7 None }
+    ensures part { FindsLine (codes "220 a\r") 0 None }
+    ensures complete { ¬ FindsLine (codes "220 a\r\n") 0 None }
 {}

@@ -4,7 +4,7 @@ ghost use Rattle.unftp_control_defs.specs.ComputedReply.{Nothing, code_of, openi
 ghost use Rattle.unftp_control_read.specs.Reading.{opened_by};
 
 /// The number that three digits spell.
-fn code_of(digits: &[u8]) -> Option<u16>
+pub(crate) fn code_of(digits: &[u8]) -> Option<u16>
     ensures { result ≡ code_of digits.now }
 {
     let [a, b, c] = digits else {

@@ -1,76 +1,117 @@
 //! The search for the reply at the start of some bytes. It takes no memory, and goes on where it
 //! stopped when more bytes have come.
+ghost use Rattle.std.specs.Prelude.{◌≡◌, ◌<◌, ◌≤◌, ℕ, IfSome, IsTrue, Some, false, true, length};
 ghost use Rattle.unftp_control_defs.specs.Bytes.{Bytes};
+ghost use Rattle.unftp_control_defs.specs.ReplyLimit.{within_limit};
 ghost use Rattle.unftp_control_read.specs.Reading.{ReturnsFound};
-ghost use Rattle.unftp_control_read.specs.Search.{IsSearched, IsAtLine, Steps};
+ghost use Rattle.unftp_control_read.specs.ReplyDecoding.{FindsByScan, FindsFirst};
+ghost use Rattle.unftp_control_read.specs.Search.{EndsBefore, HasScanned, IsAtLine, IsSearched, IsSearchWithin, Steps, begun_at};
 
 use crate::FoundReply;
+use crate::decoder::FirstReply;
+use crate::errors::NextReplyError;
 use crate::lines::{last_text, next_line};
-use crate::opening::{AfterCode, opening_of};
+use crate::opening::{AfterCode, code_of, opening_of};
+use unftp_control_defs::count::Count;
 
-/// How far the search for the reply at the start has come.
+/// How far the search for the reply at the start has come, in bytes that its owner keeps and to
+/// which more may be appended. Two numbers are all of it, so that a caller can keep it elsewhere.
 #[derive(Drop)]
-pub(crate) struct Search {
-    /// The code of a reply of several lines, whose first is complete.
-    opened: Option<u16>,
-    /// Where the incomplete line begins.
+pub struct Search {
     line: usize,
-    /// How many of its bytes were searched for its end.
-    searched: usize,
+    offset: usize,
+    scanned: Count,
 }
 
-/// What one more line does: it ends the search, or the reply of several lines goes on after it.
-#[derive(Drop)]
-enum SearchStep {
-    Ends(FoundReply),
-    GoesOn(u16),
-}
-
-/// What this line does, which `after` follows.
-fn pass_line(bytes: &[u8], opened: Option<u16>, line: &[u8], after: &[u8]) -> SearchStep
-    requires { IsAtLine bytes.now opened line.now after.now }
-    ensures steps { Steps bytes.now after.now result }
+/// What is found at a line of a reply of several, after the first; `None` where the reply goes on.
+fn pass_later(bytes: &[u8], line: &[u8], after: &[u8]) -> Option<FoundReply>
+    requires { length after.now < length bytes.now }
+    ensures ends { IfSome result (EndsBefore bytes.now after.now) }
+    ensures steps { IsAtLine bytes.now false line.now after.now
+        → Steps bytes.now after.now result }
 {
-    let Some(code) = opened else {
-        return pass_first(bytes, line, after);
+    let Some((digits, _)) = bytes.split_at_checked(3) else {
+        return Some(FoundReply::Malformed);
     };
-    match last_text(&bytes[..3], line) {
-        None => SearchStep::GoesOn(code),
+    let Some(code) = code_of(digits) else {
+        return Some(FoundReply::Malformed);
+    };
+    match last_text(digits, line) {
+        None => None,
         Some(_) => {
             let used = bytes.len() - after.len();
-            SearchStep::Ends(FoundReply::Whole { code, used })
+            Some(FoundReply::Whole { code, used })
         }
     }
 }
 
-/// What the first line does.
-fn pass_first(bytes: &[u8], line: &[u8], after: &[u8]) -> SearchStep
-    requires { IsAtLine bytes.now None line.now after.now }
-    ensures { Steps bytes.now after.now result }
+/// What is found at the first line; `None` where it opens a reply of several.
+fn pass_first(bytes: &[u8], line: &[u8], after: &[u8]) -> Option<FoundReply>
+    requires { length after.now < length bytes.now }
+    ensures ends { IfSome result (EndsBefore bytes.now after.now) }
+    ensures steps { IsAtLine bytes.now true line.now after.now
+        → Steps bytes.now after.now result }
 {
     let Some(opening) = opening_of(line) else {
-        return SearchStep::Ends(FoundReply::Malformed);
+        return Some(FoundReply::Malformed);
     };
     let code = opening.code;
     match opening.kind {
         AfterCode::One(_) => {
             let used = bytes.len() - after.len();
-            SearchStep::Ends(FoundReply::Whole { code, used })
+            Some(FoundReply::Whole { code, used })
         }
-        AfterCode::Several(_) => SearchStep::GoesOn(code),
+        AfterCode::Several(_) => None,
     }
+}
+
+/// What is found at this line, which `after` follows; `None` where a reply of several goes on.
+fn pass_line(bytes: &[u8], is_first: bool, line: &[u8], after: &[u8]) -> Option<FoundReply>
+    requires { length after.now < length bytes.now }
+    ensures ends { IfSome result (EndsBefore bytes.now after.now) }
+    ensures steps { IsAtLine bytes.now is_first line.now after.now
+        → Steps bytes.now after.now result }
+{
+    if is_first {
+        return pass_first(bytes, line, after);
+    }
+    pass_later(bytes, line, after)
 }
 
 impl Search {
     /// Nothing is searched.
-    pub(crate) fn new() -> Search
-        ensures { (bytes : Bytes) → IsSearched bytes result }
+    pub fn new() -> Search
+        ensures new { result ≡ begun_at 0 0 }
+        ensures searched { (bytes : Bytes) → IsSearched bytes result }
+    {
+        Search::resume(0, 0)
+    }
+
+    /// A search that goes on where another one stopped, for a caller that keeps only what `line`
+    /// and `offset` returned. It has scanned nothing itself.
+    pub fn resume(line: usize, offset: usize) -> Search
+        ensures { result ≡ begun_at line offset }
     {
         Search {
-            opened: None,
-            line: 0,
-            searched: 0,
+            line,
+            offset,
+            scanned: Count::new(),
         }
+    }
+
+    /// Where the first line begins that is not passed: those before it are lines of a reply that
+    /// goes on after them.
+    pub fn line(&self) -> usize
+        ensures { result ≡ self.now.line }
+    {
+        self.line
+    }
+
+    /// How many bytes were scanned for a line feed.
+    pub fn offset(&self) -> usize
+        ensures { result ≡ self.now.offset }
+    {
+        self.offset
     }
 
     /// Nothing is searched any more.
@@ -82,26 +123,84 @@ impl Search {
 
     /// Finds the reply at the start. A byte is scanned again for a line feed only in a last line
     /// that is found again, or in a first line that opens no reply.
+    ///
+    /// Where the search has not come so far in these bytes, but in others, what it finds means
+    /// nothing.
     pub(crate) fn find_front(&mut self, bytes: &[u8]) -> FoundReply
-        requires { IsSearched bytes.now self.old }
-        ensures finds { ReturnsFound bytes.now result }
-        ensures searched { IsSearched bytes.now self.new }
+        requires { IsSearchWithin self.old (length bytes.now) }
+        ensures finds { IsSearched bytes.now self.old → ReturnsFound bytes.now result }
+        ensures searched { IsSearched bytes.now self.old → IsSearched bytes.now self.new }
+        ensures within { IsSearchWithin self.new (length bytes.now) }
+        ensures scanned { HasScanned self.old (length bytes.now) result self.new }
     {
         let (_, mut rest) = bytes.split_at(self.line);
-        while let Some((line, after)) = next_line(rest, self.searched) {
-            match pass_line(bytes, self.opened, line, after) {
-                SearchStep::Ends(found) => return found,
-                SearchStep::GoesOn(code) => {
-                    *self = Search {
-                        opened: Some(code),
-                        line: bytes.len() - after.len(),
-                        searched: 0,
-                    };
-                    rest = after;
+        while let Some((line, after)) = next_line(
+            rest,
+            self.offset - self.line,
+            &mut self.scanned,
+        ) {
+            if let Some(found) = pass_line(bytes, self.line == 0, line, after) {
+                return found;
+            }
+            self.line = bytes.len() - after.len();
+            self.offset = self.line;
+            rest = after;
+        }
+        self.offset = bytes.len();
+        FoundReply::Partial
+    }
+    /// Finds the first reply of the bytes (RFC 959, section 4.2), or returns `None` where they are
+    /// only a part of one. With a limit, a reply may have at most so many bytes, and no other byte
+    /// is searched. No memory is taken, so it is never `OutOfMemory`.
+    ///
+    /// A byte is scanned again for a line feed only in a last line that is found again, or in a
+    /// first line that opens no reply. Where the search has not come so far in these bytes, but in
+    /// others, what it finds means nothing.
+    pub fn find_first(
+        &mut self,
+        bytes: &[u8],
+        limit: Option<usize>,
+    ) -> Result<Option<FirstReply>, NextReplyError>
+        requires { IsSearchWithin self.old (length (within_limit limit bytes.now)) }
+        ensures finds { IsSearched (within_limit limit bytes.now) self.old
+            → FindsFirst limit bytes.now result }
+        ensures searched { IsSearched (within_limit limit bytes.now) self.old
+            → IsSearched (within_limit limit bytes.now) self.new }
+        ensures scanned { FindsByScan self.old (length (within_limit limit bytes.now)) result
+            self.new }
+    {
+        let searched = first_bytes(bytes, limit);
+        match self.find_front(searched) {
+            FoundReply::Whole { code, used } => Ok(Some(FirstReply { code, length: used })),
+            FoundReply::Malformed => Err(NextReplyError::Malformed),
+            FoundReply::Partial => {
+                if is_full(searched, limit) {
+                    return Err(NextReplyError::TooLong);
                 }
+                Ok(None)
             }
         }
-        self.searched = rest.len();
-        FoundReply::Partial
+    }
+}
+
+/// The bytes that a reply may have: the first `limit` ones, or all.
+pub fn first_bytes(bytes: &[u8], limit: Option<usize>) -> &[u8]
+    ensures { result.now ≡ within_limit limit bytes.now }
+{
+    match limit {
+        Some(limit) => bytes.split_at(limit.min(bytes.len())).0,
+        None => bytes,
+    }
+}
+
+/// Whether there are as many bytes as a reply may have.
+pub(crate) fn is_full(bytes: &[u8], limit: Option<usize>) -> bool
+    ensures yes { IsTrue result
+        → (most : ℕ) × (limit ≡ Some most) × (most ≤ length bytes.now) }
+    ensures no { result ≡ false → IfSome limit (λ most. length bytes.now < most) }
+{
+    match limit {
+        Some(most) => most <= bytes.len(),
+        None => false,
     }
 }

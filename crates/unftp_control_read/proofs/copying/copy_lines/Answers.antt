@@ -1,14 +1,13 @@
-use Rattle.std.proofs.Common.{None, ◌∙◌, ap, refl}
+use Rattle.std.proofs.Common.{true, ◌∙◌, ap, refl}
 use Rattle.std.proofs.lemmas.Result.{IfOk-weaker}
 use Rattle.unftp_control_read.specs.Reading.{opened_by}
 use Rattle.unftp_control_read.proofs.CopyLemmas.{one_copied, several_copied}
-use Rattle.unftp_control_read.proofs.LineLemmas.{lacks_all}
 use Rattle.unftp_control_read.proofs.SearchLemmas.{all_searched}
 use Rattle.unftp_control_read.proofs.copying.copy_lines.Goals as goal
 
 pub unreachable-requires : goal.unreachable-requires
-unreachable-requires c = (all_searched c.args.bytes.now None c.args.bytes.now refl
-    (lacks_all c.args.bytes.now c.in_default.ensures.none)).0 c.requires
+unreachable-requires c = (all_searched c.args.bytes.now true c.args.bytes.now refl
+    c.in_default.ensures.none).0 c.requires
 
 pub returns-in-One : goal.returns-in-One
 returns-in-One c =

@@ -1,6 +1,5 @@
 use Rattle.unftp_control_read.proofs.CopyLemmas.{contents_more, copied_last, copied_more, copied_none}
 use Rattle.unftp_control_read.specs.Reading.{contents}
-use Rattle.unftp_control_read.proofs.LineLemmas.{lacks_all}
 use Rattle.unftp_control_read.proofs.copying.copy_several.Goals as goal
 
 pub returns-in-Some-last_text : goal.returns-in-Some-last_text
@@ -24,4 +23,4 @@ pub returns : goal.returns
 returns c opened code lines end e = absurd
     (copied_none c.args.digits.now c.args.first.now c.args.bytes.now c.loop-line.rest.now
     (contents c.loop-line.lines) c.loop-line.invariant
-    (lacks_all c.loop-line.rest.now c.in_default.ensures.none) opened code lines end e)
+    c.in_default.ensures.none opened code lines end e)

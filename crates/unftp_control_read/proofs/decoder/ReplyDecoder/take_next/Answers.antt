@@ -28,7 +28,7 @@ invariant_of-self-in-Whole c =
         length-drop buffer.start buffer.bytes.items,
         c.self.invariant.start_within,
       );
-      searched = c.new-self-inside.ensures _;
+      searched = c.new-self-inside.ensures.searched _;
       room = c.self.invariant.room;
     }
 
