@@ -30,6 +30,8 @@
  *     unftp_quoted_path            path                out, len                 none
  *     unftp_usual_reply            event, value        out, len                 none
  *     unftp_front_reply            bytes               reply                    none
+ *     unftp_next_reply             search, bytes       search, reply            none
+ *     unftp_next_reply_line        bytes, line         line                     none
  *     unftp_reply_lines            bytes               out, len                 40 n + 100
  *     unftp_canonical              line                out, len                 some
  *     unftp_forward                line                out, len, clear          none
@@ -154,14 +156,18 @@ enum unftp_result {
     /* No reply has this code: it is not from 100 to 599. */
     UNFTP_UNKNOWN_CODE = 110,
     /* No call leaves such a connection: its offset is past the bytes, or is not 0 while bytes are
-       skipped, or skipping is greater than 1. Or 2^64 - 1 lines were noted; or the accounts were
-       not asked; or an address has no such form, length or port; or what is shown of a line is not
-       printable; or an event or a step has no reply. */
+       skipped, or skipping is greater than 1. Or no call leaves such a search: its line is past its
+       offset, or that is past the bytes that a reply may have. Or a line of a reply would begin past
+       the bytes; or 2^64 - 1 lines were noted; or the accounts were not asked; or an address has no
+       such form, length or port; or a file no such kind, time or name; or what is shown of a line is
+       not printable; or an event or a step has no reply. */
     UNFTP_INVALID_ARGUMENT = 111,
     /* The text has no such address. */
     UNFTP_NO_ADDRESS = 112,
     /* The address's protocol is neither IPv4 nor IPv6. */
-    UNFTP_UNKNOWN_PROTOCOL = 113
+    UNFTP_UNKNOWN_PROTOCOL = 113,
+    /* As many bytes as a reply may have are only a part of one. */
+    UNFTP_REPLY_TOO_LONG = 114
 };
 
 /* Codes of replies by name, those of RFC 959 (section 4.2.2) where no other RFC is named.
@@ -255,12 +261,36 @@ struct unftp_line {
     size_t value_at;
 };
 
-/* What unftp_front_reply has found. */
+/* What a client keeps of its search for replies, beside its pending bytes: those that were received
+   and not dropped. At the start of a connection all but the limit is 0, as in {65536, 0, 0}. A
+   client that drops bytes which unftp_next_reply has not found to be a reply, as it does before TLS
+   begins, sets line and offset to 0. */
+struct unftp_reply_search {
+    /* How many bytes a reply may have, its line ends counted; 0 for any number. */
+    size_t limit;
+    /* Of unftp_next_reply: where the first line begins that is not passed. Those before it are lines
+       of a reply that goes on after them. */
+    size_t line;
+    /* Of unftp_next_reply: how many of the pending bytes were scanned for a line feed. */
+    size_t offset;
+};
+
+/* What unftp_next_reply or unftp_front_reply has found. */
 struct unftp_found_reply {
     /* How many bytes the reply takes. */
     size_t used;
     /* Its code: any three digits, so 0 to 999. */
     uint32_t code;
+};
+
+/* Where a line of a reply is. Before the first line all is 0. */
+struct unftp_reply_line {
+    /* Where its text begins in the reply. */
+    size_t text_at;
+    /* How many bytes its text has. */
+    size_t text_len;
+    /* Where the next line begins; after the last one, where the reply ends. */
+    size_t next;
 };
 
 /* What a client keeps of its dialogue with a server, beside the bytes. At the start all is 0. Under
@@ -542,10 +572,49 @@ enum unftp_result unftp_usual_reply(uint32_t event, const char *value, size_t va
  * UNFTP_DONE with its code and how many bytes it takes, UNFTP_MORE where it is not complete, or
  * UNFTP_MALFORMED; both fields are then 0. A line ends at CR LF, and a bare LF belongs to it. It
  * takes no memory, and scans from the start at each call. There is no bound on a reply's length:
- * the caller sets one.
+ * the caller sets one. For bytes that come in pieces there is unftp_next_reply.
  */
 enum unftp_result unftp_front_reply(const char *bytes, size_t bytes_len,
                                     struct unftp_found_reply *reply) UNFTP_NONNULL;
+
+/*
+ * Finds the first reply of the pending bytes of a client (RFC 959, section 4.2), and goes on where
+ * the last call stopped: no byte is scanned again for a line feed, however the bytes come. It
+ * returns UNFTP_DONE with the code of the reply and how many bytes it takes; the caller drops them,
+ * and calls again. Or it returns UNFTP_MORE where the bytes are only a part of a reply, shorter than
+ * one may be: the caller keeps them, and appends those that come. UNFTP_REPLY_TOO_LONG says that as
+ * many bytes as a reply may have are only a part of one, and UNFTP_MALFORMED that their first line
+ * opens none; they are returned again at each later call. Which of them it is doesn't depend on the
+ * pieces. UNFTP_INVALID_ARGUMENT says that no call leaves such a search. But at UNFTP_DONE both
+ * fields of the reply are 0, and the search is as it was at UNFTP_MALFORMED and
+ * UNFTP_INVALID_ARGUMENT. It takes no memory.
+ *
+ *     struct unftp_reply_search search = {65536, 0, 0};
+ *     struct unftp_found_reply reply;
+ *     while (unftp_next_reply(&search, bytes, len, &reply) == UNFTP_DONE) {
+ *         take(reply.code, bytes, reply.used);
+ *         bytes += reply.used;
+ *         len -= reply.used;
+ *     }
+ */
+enum unftp_result unftp_next_reply(struct unftp_reply_search *search,
+                                   const char *bytes, size_t bytes_len,
+                                   struct unftp_found_reply *reply) UNFTP_NONNULL;
+
+/*
+ * Finds the next line of a reply, where it is: the one that begins at line->next. The bytes are all
+ * those of one reply, as unftp_next_reply found it. It returns UNFTP_DONE; UNFTP_MORE at the end of
+ * the reply, or where no line is complete; or UNFTP_INVALID_ARGUMENT where line->next is past the
+ * bytes. The line is as it was but at UNFTP_DONE. Of the first line and the last the text is what
+ * comes after the code and the one byte that follows it, and of a line between them all of it,
+ * without the CR LF; a reply of only a code has one empty line. It takes no memory.
+ *
+ *     struct unftp_reply_line line = {0, 0, 0};
+ *     while (unftp_next_reply_line(bytes, reply.used, &line) == UNFTP_DONE)
+ *         fwrite(bytes + line.text_at, 1, line.text_len, stdout);
+ */
+enum unftp_result unftp_next_reply_line(const char *bytes, size_t bytes_len,
+                                        struct unftp_reply_line *line) UNFTP_NONNULL;
 
 /*
  * Writes the lines of the reply at the start of what a client has received to the start of out,
@@ -952,6 +1021,7 @@ static inline const char *unftp_result_text(uint32_t result)
     case UNFTP_INVALID_ARGUMENT: return "invalid argument";
     case UNFTP_NO_ADDRESS: return "no address";
     case UNFTP_UNKNOWN_PROTOCOL: return "unknown network protocol";
+    case UNFTP_REPLY_TOO_LONG: return "reply too long";
     default: return "unknown result";
     }
 }

@@ -49,6 +49,7 @@ struct session {
     int socket;
     struct unftp_client client;
     uint64_t place; /* of the last line */
+    struct unftp_reply_search search;
     struct unftp_found_reply reply;
     char bytes[REPLY_ROOM];
     size_t len;
@@ -137,10 +138,9 @@ static enum unftp_to take_reply(struct session *session, uint64_t *place)
     size_t got;
 
     drop_reply(session);
-    while ((result = unftp_front_reply(session->bytes, session->len, &session->reply))
+    while ((result = unftp_next_reply(&session->search, session->bytes, session->len,
+                                      &session->reply))
            == UNFTP_MORE) {
-        if (session->len == sizeof session->bytes)
-            fail("reply too long");
         got = receive(session->socket, session->bytes + session->len,
                       sizeof session->bytes - session->len, "control connection");
         if (got == 0)
@@ -359,6 +359,7 @@ int main(int count, char **arguments)
             fail("a name, a password and a path are of one line");
     }
     signal(SIGPIPE, SIG_IGN);
+    session.search.limit = sizeof session.bytes;
     session.socket = connect_to(arguments[1], arguments[2]);
     if (final_code(&session, UNFTP_TO_GREETING) / 100 != 2)
         fail_reply(&session, "no session");

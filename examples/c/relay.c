@@ -88,6 +88,7 @@ struct session {
     struct side client;
     struct side server;
     struct unftp_connection connection;
+    struct unftp_reply_search search;
     struct unftp_client dialogue;
     enum unftp_code held_code; /* an answer that waits for the server's replies before it */
     const char *held_text;     /* NULL where there is none */
@@ -325,7 +326,8 @@ static void pass_replies(struct session *session)
     struct unftp_found_reply reply;
     enum unftp_result result;
 
-    while ((result = unftp_front_reply(front(&server->from), pending(&server->from), &reply))
+    while ((result = unftp_next_reply(&session->search, front(&server->from),
+                                      pending(&server->from), &reply))
            == UNFTP_DONE) {
         if (reply.used > make_room(&session->client.to))
             return;
@@ -333,14 +335,14 @@ static void pass_replies(struct session *session)
         if (session->is_over)
             return;
     }
-    if (result != UNFTP_MORE)
+    if (result == UNFTP_REPLY_TOO_LONG)
+        end_session(session, "the server's reply is too long");
+    else if (result != UNFTP_MORE)
         end_session(session, "the server's reply is malformed");
     else if (server->is_at_end && session->is_closing)
         session->is_over = true;
     else if (server->is_at_end)
         end_session(session, "the server has closed the connection");
-    else if (pending(&server->from) == sizeof server->from.bytes)
-        end_session(session, "the server's reply is too long");
 }
 
 /* Whether a call on a socket that failed may be made again. */
@@ -490,6 +492,7 @@ static void serve(int client, const struct addrinfo *addresses, long idle)
     static struct session session; /* all zeros: the process has no other */
 
     session.connection.limit = LINE_LIMIT;
+    session.search.limit = sizeof session.server.from.bytes;
     session.idle = (int)(idle * 1000);
     session.client.socket = client;
     prepare(client);

@@ -328,6 +328,7 @@ static bool answer_command(struct client *client, enum unftp_result result,
     case UNFTP_INVALID_EOL: case UNFTP_LINE_TOO_LONG: case UNFTP_OUT_OF_MEMORY:
     case UNFTP_NO_ROOM: case UNFTP_NO_LINE: case UNFTP_MALFORMED: case UNFTP_UNKNOWN_CODE:
     case UNFTP_INVALID_ARGUMENT: case UNFTP_NO_ADDRESS: case UNFTP_UNKNOWN_PROTOCOL:
+    case UNFTP_REPLY_TOO_LONG:
         break;
     }
     return answer_refusal(client, result);

@@ -705,7 +705,7 @@ def exported():
     return found
 
 
-# what bindings/rust does without the library: a reply borrows its lines
+# what bindings/rust has no use for: a reply borrows its lines, which unftp_next_reply_line finds
 NOT_IN_RUST = ["unftp_reply_lines"]
 
 

@@ -34,6 +34,7 @@ pub(crate) const MALFORMED: u32 = 109;
 pub(crate) const INVALID_ARGUMENT: u32 = 111;
 pub(crate) const NO_ADDRESS: u32 = 112;
 pub(crate) const UNKNOWN_PROTOCOL: u32 = 113;
+pub(crate) const REPLY_TOO_LONG: u32 = 114;
 
 /// What `unftp_client_reply` returns.
 pub(crate) const TO_GREETING: u32 = 0;
@@ -76,6 +77,24 @@ pub(crate) struct Line {
 pub(crate) struct FoundReply {
     pub(crate) used: usize,
     pub(crate) code: u32,
+}
+
+/// `struct unftp_reply_search`.
+#[repr(C)]
+#[derive(Clone, Debug, Default)]
+pub(crate) struct ReplySearch {
+    pub(crate) limit: usize,
+    pub(crate) line: usize,
+    pub(crate) offset: usize,
+}
+
+/// `struct unftp_reply_line`.
+#[repr(C)]
+#[derive(Default)]
+pub(crate) struct ReplyLine {
+    pub(crate) text_at: usize,
+    pub(crate) text_len: usize,
+    pub(crate) next: usize,
 }
 
 /// `struct unftp_client`. A call on a copy notes nothing.
@@ -197,6 +216,17 @@ extern "C" {
 
     #[cfg_attr(not(feature = "system"), link_name = own_name!("front_reply"))]
     fn unftp_front_reply(bytes: *const u8, bytes_len: usize, reply: *mut FoundReply) -> u32;
+
+    #[cfg_attr(not(feature = "system"), link_name = own_name!("next_reply"))]
+    fn unftp_next_reply(
+        search: *mut ReplySearch,
+        bytes: *const u8,
+        bytes_len: usize,
+        reply: *mut FoundReply,
+    ) -> u32;
+
+    #[cfg_attr(not(feature = "system"), link_name = own_name!("next_reply_line"))]
+    fn unftp_next_reply_line(bytes: *const u8, bytes_len: usize, line: *mut ReplyLine) -> u32;
 
     #[cfg_attr(not(feature = "system"), link_name = own_name!("canonical"))]
     fn unftp_canonical(
@@ -568,6 +598,25 @@ pub(crate) fn front_reply(bytes: &[u8]) -> (u32, FoundReply) {
     // slice. Nothing overlaps: `reply` is a variable of this function, and has the header's form.
     let status = unsafe { unftp_front_reply(bytes.as_ptr(), bytes.len(), &mut reply) };
     (status, reply)
+}
+
+/// Calls `unftp_next_reply`: what it returns, and the reply.
+pub(crate) fn next_reply(search: &mut ReplySearch, bytes: &[u8]) -> (u32, FoundReply) {
+    check_version();
+    let mut reply = FoundReply::default();
+    // SAFETY: no pointer is null, since each is of a reference, and the length is that of the
+    // slice. Nothing overlaps: `search` is mutably borrowed, `reply` is a variable of this
+    // function, and both have the header's form.
+    let status = unsafe { unftp_next_reply(search, bytes.as_ptr(), bytes.len(), &mut reply) };
+    (status, reply)
+}
+
+/// Calls `unftp_next_reply_line`: what it returns.
+pub(crate) fn next_reply_line(bytes: &[u8], line: &mut ReplyLine) -> u32 {
+    check_version();
+    // SAFETY: no pointer is null, since each is of a reference, and the length is that of the
+    // slice. Nothing overlaps: `line` is mutably borrowed, and has the header's form.
+    unsafe { unftp_next_reply_line(bytes.as_ptr(), bytes.len(), line) }
 }
 
 /// Calls `unftp_canonical`: what it returns, and the length.

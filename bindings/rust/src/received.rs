@@ -1,8 +1,7 @@
 use crate::bytes::RawBytes;
+use crate::ffi;
 use std::borrow::Cow;
 use std::fmt::{self, Debug, Display, Formatter, Write};
-
-const CR_LF: &[u8] = b"\r\n";
 
 /// A reply that a client has received: a code, and its bytes as they came.
 #[derive(Clone, PartialEq, Eq)]
@@ -53,16 +52,10 @@ impl ReceivedReply<'_> {
     /// # Ok::<(), unftp_control::Error>(())
     /// ```
     pub fn lines(&self) -> impl Iterator<Item = &[u8]> + '_ {
-        let mut rest = Some(self.bytes.strip_suffix(CR_LF).unwrap_or(&self.bytes));
-        let mut has_code = true;
+        let mut line = ffi::ReplyLine::default();
         std::iter::from_fn(move || {
-            let bytes = rest?;
-            let end = cr_lf_from(bytes, 0);
-            rest = end.map(|end| &bytes[end + CR_LF.len()..]);
-            let line = &bytes[..end.unwrap_or(bytes.len())];
-            let has_code = std::mem::take(&mut has_code) || rest.is_none();
-            // a first line may be just the code
-            Some(if has_code { line.get(4..).unwrap_or_default() } else { line })
+            let found = ffi::next_reply_line(&self.bytes, &mut line) == ffi::DONE;
+            found.then(|| &self.bytes[line.text_at..line.text_at + line.text_len])
         })
     }
 
@@ -113,9 +106,4 @@ pub(crate) fn fmt_reply<'a>(
 ) -> fmt::Result {
     let lines: Vec<RawBytes<'_>> = lines.map(RawBytes::from).collect();
     f.debug_struct(name).field("code", &code).field("lines", &lines).finish()
-}
-
-/// Where the first CR LF from this place on begins.
-pub(crate) fn cr_lf_from(bytes: &[u8], from: usize) -> Option<usize> {
-    Some(from + bytes[from..].windows(2).position(|pair| pair == CR_LF)?)
 }

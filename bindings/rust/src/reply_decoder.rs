@@ -1,6 +1,6 @@
 use crate::error::Error;
-use crate::received::{cr_lf_from, ReceivedReply};
-use crate::reply::{front_reply, FrontReply};
+use crate::ffi;
+use crate::received::ReceivedReply;
 use std::fmt::{self, Debug, Formatter};
 
 /// The most bytes of a reply, where no other limit is named.
@@ -8,8 +8,7 @@ pub const REPLY_LIMIT: usize = 65_536;
 
 /// Takes the replies that a client has received, one after the other.
 ///
-/// The library says where a reply ends. It is asked only at the end of a line that may be the last
-/// one of a reply, so that no byte is searched again with each piece that comes.
+/// No byte is searched again with each piece that comes.
 ///
 /// ```
 /// use unftp_control::ReplyDecoder;
@@ -102,11 +101,7 @@ impl Debug for ReplyDecoder {
 /// The search for the first reply of the pending bytes, which its owner keeps.
 #[derive(Clone, Debug)]
 pub(crate) struct Search {
-    limit: usize,
-    /// How many bytes at the start are lines that end no reply.
-    passed: usize,
-    /// How many bytes were searched for the end of a line.
-    searched: usize,
+    place: ffi::ReplySearch,
     /// The code of the first reply and how many bytes it has, once it is complete.
     found: Option<(u16, usize)>,
 }
@@ -114,7 +109,7 @@ pub(crate) struct Search {
 impl Search {
     /// A limit of 0 is none.
     pub(crate) fn new(limit: usize) -> Search {
-        Search { limit, passed: 0, searched: 0, found: None }
+        Search { place: ffi::ReplySearch { limit, ..Default::default() }, found: None }
     }
 
     /// The first reply of the pending bytes. Its owner then drops its bytes.
@@ -141,52 +136,23 @@ impl Search {
     }
 
     fn search(&mut self, pending: &[u8]) -> Result<Option<(u16, usize)>, Error> {
-        let bytes = match self.limit {
-            0 => pending,
-            limit => &pending[..limit.min(pending.len())],
-        };
-        if self.searched > bytes.len() {
+        if self.place.offset > pending.len() {
             // the owner has dropped bytes
             self.restart();
         }
-        while let Some(end) = self.line_end(bytes) {
-            if self.passed == 0 || ends_reply(bytes, self.passed) {
-                match front_reply(&bytes[..end]) {
-                    FrontReply::Whole { code, used } => return Ok(Some((code, used))),
-                    FrontReply::Malformed => {
-                        self.restart();
-                        return Err(Error::MalformedReply);
-                    }
-                    FrontReply::Partial => {}
-                }
-            }
-            self.passed = end;
+        let (status, reply) = ffi::next_reply(&mut self.place, pending);
+        match (status, u16::try_from(reply.code)) {
+            (ffi::DONE, Ok(code)) => Ok(Some((code, reply.used))),
+            (ffi::MORE, _) => Ok(None),
+            (ffi::MALFORMED, _) => Err(Error::MalformedReply),
+            (ffi::REPLY_TOO_LONG, _) => Err(Error::ReplyTooLong),
+            (status, _) => unreachable!("unftp_next_reply returns {status} for no such search"),
         }
-        if self.limit != 0 && bytes.len() == self.limit {
-            return Err(Error::ReplyTooLong);
-        }
-        Ok(None)
     }
 
     fn restart(&mut self) {
-        (self.passed, self.searched, self.found) = (0, 0, None);
+        *self = Search::new(self.place.limit);
     }
-
-    /// The end of the first line that is not passed.
-    fn line_end(&mut self, bytes: &[u8]) -> Option<usize> {
-        // the last byte that was searched may be a CR whose LF has come since
-        let from = self.searched.saturating_sub(1).max(self.passed);
-        let end = cr_lf_from(bytes, from).map(|at| at + 2);
-        self.searched = end.unwrap_or(bytes.len());
-        end
-    }
-}
-
-/// Whether the line from this place on begins as the last line of the reply does: with the code of
-/// the first line and a space.
-fn ends_reply(bytes: &[u8], line: usize) -> bool {
-    let begin = &bytes[line..];
-    begin.starts_with(&bytes[..3]) && begin.get(3) == Some(&b' ')
 }
 
 #[cfg(test)]
@@ -200,20 +166,20 @@ mod tests {
         for (count, byte) in b"211-a\r\n212 b\r\n211-\r\n211 ".iter().enumerate() {
             pending.push(*byte);
             assert_eq!(search.find(&pending)?, None);
-            assert_eq!(search.searched, count + 1);
+            assert_eq!(search.place.offset, count + 1);
             assert_eq!(
-                search.passed,
+                search.place.line,
                 [0, 7, 14, 20][pending.split(|byte| *byte == b'\n').count() - 1]
             );
         }
         pending.extend_from_slice(b"\r\n220 Ready\r\n");
         let first = search.find(&pending)?.map(ReceivedReply::into_owned);
         assert_eq!(first.as_ref().map(|reply| reply.bytes().len()), Some(pending.len() - 11));
-        let found = (search.searched, search.passed, search.found);
+        let found = search.found;
         assert_eq!(search.find(&pending)?, first);
-        assert_eq!((search.searched, search.passed, search.found), found);
+        assert_eq!(search.found, found);
         assert_eq!(search.take(&pending)?, first);
-        assert_eq!((search.searched, search.passed, search.found), (0, 0, None));
+        assert_eq!((search.place.line, search.place.offset, search.found), (0, 0, None));
         Ok(())
     }
 }

@@ -6,14 +6,15 @@ use Rattle.std.proofs.Math.Nat.{min-le_left}
 use Rattle.std.proofs.Math.Seq.{take-append_seam, drop-append_seam}
 use Rattle.unftp_control_defs.specs.Bytes.{Bytes}
 use Rattle.unftp_control_c.specs.declared.status.Status.{Status}
-use Rattle.unftp_control_c.specs.declared.status.Status.TheVariants.{Done, More, InvalidCommand, InvalidUtf8, InvalidEol, LineTooLong, OutOfMemory, NoRoom, NoLine, Malformed, UnknownCode, InvalidArgument, NoAddress, UnknownProtocol}
+use Rattle.unftp_control_c.specs.declared.status.Status.TheVariants.{Done, More, InvalidCommand, InvalidUtf8, InvalidEol, LineTooLong, OutOfMemory, NoRoom, NoLine, Malformed, UnknownCode, InvalidArgument, NoAddress, UnknownProtocol, ReplyTooLong}
 use Rattle.unftp_control_c.specs.Numbers.{status_number}
 use Rattle.unftp_control_c.specs.Areas.{Filled, Made, filled, made, written}
 
 -- each status has a number of its own
 abbrev statuses : List Status
 statuses = More ∷ InvalidCommand ∷ InvalidUtf8 ∷ InvalidEol ∷ LineTooLong ∷ OutOfMemory ∷ NoRoom
-    ∷ NoLine ∷ Malformed ∷ UnknownCode ∷ InvalidArgument ∷ NoAddress ∷ UnknownProtocol ∷ []
+    ∷ NoLine ∷ Malformed ∷ UnknownCode ∷ InvalidArgument ∷ NoAddress ∷ UnknownProtocol
+    ∷ ReplyTooLong ∷ []
 
 abbrev numbered : ℕ → Status
 numbered n = if n == 0 then Done else get_or statuses (n - 101) Done

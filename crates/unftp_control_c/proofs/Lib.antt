@@ -16,3 +16,4 @@ mod ReplyLemmas
 pub mod ReplyRoomLemmas
 pub mod RoomLemmas
 pub mod TextLemmas
+pub mod NextReplyLemmas

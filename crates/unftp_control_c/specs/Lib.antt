@@ -5,6 +5,8 @@ pub mod Next
 pub mod Taking
 pub mod Rows
 pub mod Replies
+pub mod NextReply
+pub mod TakingReplies
 pub mod Parameters
 pub mod CanonicalLines
 pub mod ForwardedLines

@@ -43,7 +43,7 @@ abbrev pub left_with : ℕ → Connection → Bytes → Line → Left
 left_with result connection area line =
     record { result = result; connection = connection; area = area; line = line }
 
--- the limit of a line's bytes, where there is one
+-- the limit of a line's bytes, or of a reply's, where there is one
 abbrev pub line_limit : ℕ → Option ℕ
 line_limit limit = if limit == 0 then None else Some limit
 

@@ -9,7 +9,7 @@ use Rattle.unftp_control_message.specs.declared.reply.error.parse_error.ParseErr
 use Rattle.unftp_control_write.specs.declared.WriteCommandError.{WriteCommandError}
 use Rattle.unftp_control_write.specs.declared.WriteCommandError.TheVariants as error
 use Rattle.unftp_control_c.specs.declared.status.Status.{Status}
-use Rattle.unftp_control_c.specs.declared.status.Status.TheVariants.{Done, More, InvalidCommand, InvalidUtf8, InvalidEol, LineTooLong, OutOfMemory, NoRoom, NoLine, Malformed, UnknownCode, InvalidArgument, NoAddress, UnknownProtocol}
+use Rattle.unftp_control_c.specs.declared.status.Status.TheVariants.{Done, More, InvalidCommand, InvalidUtf8, InvalidEol, LineTooLong, OutOfMemory, NoRoom, NoLine, Malformed, UnknownCode, InvalidArgument, NoAddress, UnknownProtocol, ReplyTooLong}
 
 -- what a call reports where it gives no command
 abbrev pub status_number : Status → ℕ
@@ -27,6 +27,7 @@ status_number UnknownCode = 110
 status_number InvalidArgument = 111
 status_number NoAddress = 112
 status_number UnknownProtocol = 113
+status_number ReplyTooLong = 114
 
 abbrev pub refusal_status : Refusal → Status
 refusal_status refusal.InvalidCommand = InvalidCommand

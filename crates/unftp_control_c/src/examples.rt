@@ -19,6 +19,7 @@ pub mod addresses;
 pub mod calls;
 pub mod files;
 pub mod parameters;
+pub mod replies;
 pub mod sessions;
 pub mod usual;
 

@@ -8,6 +8,7 @@ ghost use Rattle.unftp_control_defs.specs.Events.{Command, Fault, FtpEvent, Refu
 ghost use Rattle.unftp_control_defs.specs.FtpCommand.{FtpCommand};
 ghost use Rattle.unftp_control_defs.specs.Said.{HasTypedFields};
 ghost use Rattle.unftp_control_defs.specs.Lines.{IsLine};
+ghost use Rattle.unftp_control_defs.specs.TakingSteps.{AreReplies};
 ghost use Rattle.unftp_control_codecs.specs.LineFeed.{is_line_feed, line_feed_from};
 ghost use Rattle.unftp_control_commands.specs.ReplyTexts.{quoted};
 ghost use Rattle.unftp_control_client.specs.Dialogue.{after_command, after_reply, next_to};
@@ -28,11 +29,14 @@ ghost use Rattle.unftp_control_c.specs.ExchangeLines.{IsExchangeLine};
 ghost use Rattle.unftp_control_c.specs.LogLines.{IsLogLine, numbered_hides, numbered_log_line};
 ghost use Rattle.unftp_control_c.specs.Logins.{KeepsSame, event_role, kept_after, kept_after_all, progress_of, stage_number};
 ghost use Rattle.unftp_control_c.specs.Next.{Call, Given, Leaves, Left, given_for, line_limit, needed_room, scans};
+ghost use Rattle.unftp_control_c.specs.NextReply.{IsSearchIn, ReplyCall, is_valid_search, reply_call, seen_length};
 ghost use Rattle.unftp_control_c.specs.Numbers.{status_number};
 ghost use Rattle.unftp_control_c.specs.Parameters.{list_path_bytes, parameter_bytes};
 ghost use Rattle.unftp_control_c.specs.Replies.{IsFoundText, reply_bytes};
 ghost use Rattle.unftp_control_c.specs.Taking.{AreCallerSteps, Caller, CallerStep, IsNumberOf, after_call, all_given, caller_call, gives_none, input_of, new_caller, scanned_by, unscanned};
+ghost use Rattle.unftp_control_c.specs.TakingReplies.{AreReplySteps, ReplyStep, codes_in, new_search, received_in, scanned_in, unsearched};
 ghost use Rattle.unftp_control_c.specs.declared.client.Client.{Client as RustClient};
+ghost use Rattle.unftp_control_c.specs.declared.next_reply.ReplySearch.{ReplySearch};
 ghost use Rattle.unftp_control_c.specs.declared.status.Status.TheVariants.{LineTooLong, More, NoRoom, OutOfMemory};
 
 pub mod usual;
@@ -259,4 +263,25 @@ pub fn logins_are_gated()
     // A number that a call leaves is read as what was left, and 0 is nobody.
     ensures numbers { (progress : Progress) → progress_of (stage_number progress) ≡ progress }
     ensures zero { progress_of 0 ≡ nobody.progress }
+{}
+
+/// Whatever a caller receives, in whatever pieces, and whenever it calls `unftp_next_reply`: its
+/// calls give the replies of what it received, in order (RFC 959, section 4.2).
+pub fn calls_find_replies()
+    ensures codes { (limit : ℕ) (steps : List ReplyStep) (after : ReplyCall)
+        → AreReplySteps (new_search limit) steps after → (replies : List (ℕ × List Bytes))
+        × AreReplies (received_in steps) replies after.bytes
+        × (map (λ reply. reply.0) replies ≡ codes_in steps) }
+    // What a call leaves serves the next one.
+    ensures searched { (limit : ℕ) (steps : List ReplyStep) (after : ReplyCall)
+        → AreReplySteps (new_search limit) steps after → IsSearchIn after.search after.bytes }
+    ensures not_refused { (search : ReplySearch) (bytes : Bytes) → IsSearchIn search bytes
+        → is_valid_search search (seen_length (reply_call search bytes)) ≡ true }
+{}
+
+/// The calls of `unftp_next_reply` scan no byte twice for a line feed.
+pub fn replies_are_scanned_once()
+    ensures { (limit : ℕ) (steps : List ReplyStep) (after : ReplyCall)
+        → AreReplySteps (new_search limit) steps after
+        → scanned_in (new_search limit) steps + unsearched after ≡ length (received_in steps) }
 {}

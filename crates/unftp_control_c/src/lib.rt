@@ -15,6 +15,7 @@ pub mod laws;
 mod log;
 mod login;
 mod next;
+mod next_reply;
 mod parameter;
 mod reply;
 mod status;

@@ -32,12 +32,15 @@ pub enum Status {
     /// No reply has this code.
     UnknownCode = 110,
     /// The offset is past the pending bytes, or is not 0 while bytes are skipped, or the flag is
-    /// greater than 1; or what is shown of a line is not printable.
+    /// greater than 1; or a place of a search is past its offset, or this past the pending bytes; or
+    /// what is shown of a line is not printable.
     InvalidArgument = 111,
     /// The text has no such address.
     NoAddress = 112,
     /// The address is of a protocol other than IPv4 and IPv6.
     UnknownProtocol = 113,
+    /// As many bytes as a reply may have are only a part of one.
+    ReplyTooLong = 114,
 }
 
 impl Status {

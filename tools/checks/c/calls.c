@@ -481,6 +481,78 @@ static void check_reply_lines(struct bytes reply)
     free_area(out);
 }
 
+/* Copies the text of each line of a reply, with a CR LF after it, to the start of an area. */
+static size_t copy_lines(struct bytes reply, char *out)
+{
+    struct unftp_reply_line line = {0, 0, 0};
+    size_t len = 0;
+
+    while (unftp_next_reply_line(reply.at, reply.len, &line) == UNFTP_DONE) {
+        memcpy(out + len, reply.at + line.text_at, line.text_len);
+        memcpy(out + len + line.text_len, "\r\n", 2);
+        len += line.text_len + 2;
+    }
+    wants(line.next == reply.len, "the last line ends where the reply does");
+    return len;
+}
+
+/* The lines of a reply, found where they are, are those that are written. */
+static void check_line_places(struct bytes reply)
+{
+    struct bytes written = area_of(reply.len), copied = area_of(reply.len);
+    struct unftp_reply_line past = {0, 0, reply.len + 1};
+    size_t len;
+
+    wants(unftp_reply_lines(reply.at, reply.len, written.at, written.len, &len) == UNFTP_DONE
+              && copy_lines(reply, copied.at) == len && memcmp(copied.at, written.at, len) == 0,
+          "the lines that are found are those that are written");
+    wants(unftp_next_reply_line(reply.at, reply.len, &past) == UNFTP_INVALID_ARGUMENT
+              && past.next == reply.len + 1,
+          "no line begins past the reply");
+    free_area(copied);
+    free_area(written);
+}
+
+/* A client to which the reply comes byte after byte finds it at its last byte, and scans no byte
+   again: each call has scanned all that came so far. */
+static void check_pieces(struct bytes reply)
+{
+    struct unftp_reply_search search = {reply.len, 0, 0};
+    struct unftp_found_reply found;
+
+    for (size_t len = 0; len < reply.len; len++) {
+        wants(unftp_next_reply(&search, reply.at, len, &found) == UNFTP_MORE && found.used == 0
+                  && search.offset == len && search.line <= len,
+              "a part of a reply is searched");
+    }
+    wants(unftp_next_reply(&search, reply.at, reply.len, &found) == UNFTP_DONE
+              && found.used == reply.len && found.code == 299 && search.line == 0
+              && search.offset == 0,
+          "and it is found at its last byte");
+    search.limit = reply.len - 1;
+    wants(unftp_next_reply(&search, reply.at, reply.len, &found) == UNFTP_REPLY_TOO_LONG
+              && found.used == 0 && search.offset == reply.len - 1,
+          "one byte less is its limit");
+}
+
+/* Searches that no call leaves are refused, and change nothing. */
+static void check_searches(void)
+{
+    static const struct unftp_reply_search refused[] = {{0, 0, 4}, {2, 0, 3}, {0, 2, 1}, {0, 4, 4}};
+    struct unftp_found_reply found;
+
+    for (size_t at = 0; at < sizeof refused / sizeof refused[0]; at++) {
+        struct unftp_reply_search search = refused[at];
+        wants(unftp_next_reply(&search, "220", 3, &found) == UNFTP_INVALID_ARGUMENT
+                  && memcmp(&search, &refused[at], sizeof search) == 0 && found.used == 0,
+              "no call leaves such a search");
+    }
+    struct unftp_reply_search search = {9, 0, 0};
+    wants(unftp_next_reply(&search, "OK\r\n", 4, &found) == UNFTP_MALFORMED && search.offset == 0
+              && unftp_next_reply(&search, "OK\r\n220 a\r\n", 11, &found) == UNFTP_MALFORMED,
+          "what opens no reply stays malformed");
+}
+
 /* A client finds the reply that these bytes are, and not before its end. */
 static void check_found(struct bytes reply)
 {
@@ -493,6 +565,8 @@ static void check_found(struct bytes reply)
               && found.code == 0,
           "but not before its end");
     check_reply_lines(reply);
+    check_line_places(reply);
+    check_pieces(reply);
 }
 
 /* The reply of this text, as bytes. */
@@ -1634,6 +1708,7 @@ int main(void)
     check_places();
     check_log_lines();
     check_replies();
+    check_searches();
     check_tls();
     check_order();
     check_clear();

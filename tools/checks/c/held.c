@@ -81,6 +81,8 @@ static void expect(const char *call, size_t len, size_t bound)
 /* Makes the calls with so many such bytes. */
 static void make_calls(char byte, size_t count)
 {
+    struct unftp_reply_search search = {0, 0, 0};
+    struct unftp_reply_line reply_line = {0, 0, 0};
     struct unftp_found_reply found;
     size_t len, size = count + 7;
     uint32_t hides;
@@ -111,6 +113,10 @@ static void make_calls(char byte, size_t count)
     expect("unftp_reply", count, 0);
     unftp_front_reply(out, len, &found);
     expect("unftp_front_reply", len, 0);
+    unftp_next_reply(&search, out, len, &found);
+    expect("unftp_next_reply", len, 0);
+    unftp_next_reply_line(out, len, &reply_line);
+    expect("unftp_next_reply_line", len, 0);
 }
 
 /* Logs a line with this before and after what it hides; says in how many blocks that was. */

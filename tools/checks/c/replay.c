@@ -513,13 +513,14 @@ static bool answer_exchange(struct words *words)
 }
 
 /* Notes the replies at the start of what a client has received, and shows to what each is. */
-static void show_received(struct unftp_client *client, struct bytes *pending)
+static void show_received(struct unftp_client *client, struct unftp_reply_search *search,
+                          struct bytes *pending)
 {
     struct unftp_found_reply found;
     enum unftp_result result;
     uint64_t place;
 
-    while ((result = unftp_front_reply(pending->at, pending->len, &found)) == UNFTP_DONE) {
+    while ((result = unftp_next_reply(search, pending->at, pending->len, &found)) == UNFTP_DONE) {
         enum unftp_to to = unftp_client_reply(client, found.code, &place);
         if (to == UNFTP_TO_COMMAND)
             printf("%llu", (unsigned long long)place);
@@ -535,6 +536,7 @@ static void show_received(struct unftp_client *client, struct bytes *pending)
 static bool answer_client(struct words *words)
 {
     struct unftp_client client = {0, 0, 0, 0, 0, 0, 0};
+    struct unftp_reply_search search = {0, 0, 0};
     char *block = room_of(0);
     struct bytes pending = {block, 0};
     uint64_t place;
@@ -551,7 +553,7 @@ static bool answer_client(struct words *words)
             continue;
         if (words->bytes[at - 1].at != NULL || at == 1) {
             push(&block, &pending, said);
-            show_received(&client, &pending);
+            show_received(&client, &search, &pending);
         } else if (unftp_client_line(&client, said.at, said.len, &place) != UNFTP_DONE) {
             fputs("not sent | ", stdout);
         }

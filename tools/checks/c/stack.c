@@ -34,6 +34,8 @@ enum {
     QUOTED_PATH,
     USUAL_REPLY,
     FRONT_REPLY,
+    NEXT_REPLY,
+    NEXT_REPLY_LINE,
     REPLY_LINES,
     CANONICAL,
     FORWARD,
@@ -70,6 +72,8 @@ static const char *const names[CALLS] = {
     "unftp_quoted_path",
     "unftp_usual_reply",
     "unftp_front_reply",
+    "unftp_next_reply",
+    "unftp_next_reply_line",
     "unftp_reply_lines",
     "unftp_canonical",
     "unftp_forward",
@@ -162,6 +166,8 @@ static void call(int name, struct bytes input, size_t room)
 {
     static const char shown[] = "RETR a";
     struct unftp_connection connection = {0, 0, 0};
+    struct unftp_reply_search search = {0, 0, 0};
+    struct unftp_reply_line reply_line = {0, 0, 0};
 
     switch (name) {
     case NEXT:
@@ -175,6 +181,8 @@ static void call(int name, struct bytes input, size_t room)
         unftp_usual_reply((uint32_t)inputs % 128, input.at, input.len, area.at, room, &len);
         break;
     case FRONT_REPLY: unftp_front_reply(input.at, input.len, &reply); break;
+    case NEXT_REPLY: unftp_next_reply(&search, input.at, input.len, &reply); break;
+    case NEXT_REPLY_LINE: unftp_next_reply_line(input.at, input.len, &reply_line); break;
     case REPLY_LINES: unftp_reply_lines(input.at, input.len, area.at, room, &len); break;
     case CANONICAL: unftp_canonical(input.at, input.len, area.at, room, &len); break;
     case FORWARD: unftp_forward(input.at, input.len, area.at, room, &len, &flag); break;
