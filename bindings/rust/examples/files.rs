@@ -4,14 +4,15 @@
 //! that ABOR comes too late. It prints its port as one line, and logs each line of a client. `ftpd`,
 //! in `programs` of the repository, has users, TLS and limits too.
 use futures_util::{SinkExt, StreamExt};
-use std::{env, ffi::OsStr, io, os::unix::ffi::OsStrExt, path::PathBuf, process, time::Duration};
+use std::time::{Duration, SystemTime};
+use std::{env, ffi::OsStr, io, os::unix::ffi::OsStrExt, path::PathBuf, process};
 use tokio::io::{copy, AsyncRead, AsyncWriteExt};
 use tokio::net::{TcpListener, TcpStream};
 use tokio::{fs, fs::File, time::sleep};
 use tokio_util::codec::Framed;
 use unftp_control::{
-    CodecError, Command, DataPort, Event, FtpLineCodec, Login, LoginStep, OwnedLine, Reply,
-    ReplyCode as Code,
+    list_line, CodecError, Command, DataPort, Event, FileStatus, FtpLineCodec, Login, LoginStep,
+    OwnedLine, Reply, ReplyCode as Code,
 };
 
 /// The name and the password that it takes.
@@ -61,21 +62,15 @@ impl Session {
         if let Some(reply) = self.data_port.answer(line) {
             return Ok(reply);
         }
-        let (code, text) = match &line.event {
-            Event::Refused(why) => (Code::COMMAND_SYNTAX_ERROR, why.to_string()),
-            Event::Command(command) => match command {
-                Command::Type | Command::Noop => (Code::COMMAND_OKAY, "OK".into()),
-                Command::Syst => (Code::SYSTEM_TYPE, "UNIX Type: L8".into()),
-                Command::Pwd => (Code::DIR_CREATED, "\"/\" is the directory".into()),
-                Command::Quit => (Code::CLOSING_CONTROL_CONNECTION, "Bye".into()),
-                Command::Retr { .. } => return self.send_file(self.path(line)?).await,
-                Command::Stor { .. } => return self.store(self.path(line)?).await,
-                Command::List { .. } => return self.list(true).await,
-                Command::Nlst { .. } => return self.list(false).await,
-                _ => (Code::COMMAND_NOT_IMPLEMENTED, "Not implemented".into()),
-            },
-        };
-        Ok(Reply::new(code, text))
+        match &line.event {
+            Event::Command(Command::Type) => Ok(Reply::new(Code::COMMAND_OKAY, "OK")),
+            Event::Command(Command::Pwd) => Reply::directory(b"/").map_err(out_of_memory),
+            Event::Command(Command::Retr { .. }) => self.send_file(self.path(line)?).await,
+            Event::Command(Command::Stor { .. }) => self.store(self.path(line)?).await,
+            Event::Command(Command::List { .. }) => self.list(true).await,
+            Event::Command(Command::Nlst { .. }) => self.list(false).await,
+            event => Ok(event.usual_reply()),
+        }
     }
 
     /// The path of a file of the folder.
@@ -119,7 +114,7 @@ impl Session {
         Ok(Reply::new(Code::CLOSING_DATA_CONNECTION, "Stored"))
     }
 
-    /// Sends the names of the files, a line each; with their sizes, and a day that is none of theirs.
+    /// Sends the names of the files, a line each; for LIST with what is known of them.
     async fn list(&mut self, is_long: bool) -> Result<Reply, Reply> {
         let names = self.names(is_long).await.map_err(failed(Code::FILE_ERROR))?;
         self.send(&*names).await
@@ -128,15 +123,21 @@ impl Session {
     async fn names(&self, is_long: bool) -> io::Result<Vec<u8>> {
         let (mut lines, mut entries) = (Vec::new(), fs::read_dir(&self.folder).await?);
         while let Some(entry) = entries.next_entry().await? {
-            let facts = entry.metadata().await?;
-            if facts.is_file() {
-                let long = format!("-rw-rw-rw- 1 ftp ftp {} Jan  1  2000 ", facts.len());
-                let start = if is_long { long.as_bytes() } else { b"" };
-                lines.extend([start, entry.file_name().as_bytes(), b"\r\n"].concat());
+            let (metadata, name) = (entry.metadata().await?, entry.file_name());
+            let file = FileStatus { uid: 0, gid: 0, ..FileStatus::from(&metadata) };
+            match list_line(&file, SystemTime::now(), name.as_bytes()) {
+                Ok(line) if metadata.is_file() && is_long => lines.extend(line),
+                Ok(_) if metadata.is_file() => lines.extend([name.as_bytes(), b"\r\n"].concat()),
+                // no line can have this name, or it is no file
+                _ => {}
             }
         }
         Ok(lines)
     }
+}
+
+fn out_of_memory(_: unftp_control::Error) -> Reply {
+    Reply::new(Code::LOCAL_ERROR, "Out of memory")
 }
 
 /// The reply with this code to a fault.

@@ -18,7 +18,7 @@ fn decide(line: &OwnedLine) -> Result<Vec<u8>, Reply> {
         Event::Command(User { .. } | Pass { .. } | Quit | Noop | Syst | Type | Pwd) => {}
         Event::Command(Cwd { .. } | Cdup | List { .. } | Nlst { .. } | Retr { .. }) => {}
         Event::Command(_) => return Err(Reply::new(Code::COMMAND_NOT_IMPLEMENTED, "Not allowed")),
-        Event::Refused(why) => return Err(Reply::new(Code::COMMAND_SYNTAX_ERROR, why.to_string())),
+        Event::Refused(refusal) => return Err(refusal.reply()),
     }
     let sent = forward(&line.bytes).ok().filter(|sent| sent.is_clear);
     sent.map(|sent| sent.bytes).ok_or(Reply::new(Code::PARAMETER_SYNTAX_ERROR, "Not clear"))

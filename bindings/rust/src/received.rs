@@ -79,7 +79,7 @@ impl ReceivedReply<'_> {
 /// ```
 impl Display for ReceivedReply<'_> {
     fn fmt(&self, f: &mut Formatter<'_>) -> fmt::Result {
-        let text = String::from_utf8_lossy(self.bytes.strip_suffix(CR_LF).unwrap_or(&self.bytes));
+        let text = String::from_utf8_lossy(self.bytes.strip_suffix(b"\r\n").unwrap_or(&self.bytes));
         for (at, line) in text.split("\r\n").enumerate() {
             if at > 0 {
                 f.write_char('\n')?;
