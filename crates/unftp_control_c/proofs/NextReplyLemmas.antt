@@ -1,10 +1,9 @@
 -- Searches for replies, call after call.
-use Rattle.std.proofs.Common.{◌≡◌, ℕ, ◌+◌, ◌-◌, ◌==◌, ◌≤◌, ◌&&◌, ◌⊎◌, inl, inr, true, List, [], ◌∷◌, ◌++◌, map, length, drop, Ok, Err, Option, Some, None, refl, sym, ap, subst, ◌∙◌, append-nil, append_assoc, length-append, length-drop, arith}
+use Rattle.std.proofs.Common.{◌≡◌, ℕ, ◌+◌, ◌-◌, ◌==◌, ◌≤◌, ◌&&◌, ◌⊎◌, inl, inr, true, List, [], ◌∷◌, ◌++◌, map, length, drop, Ok, Err, Some, None, refl, sym, ap, subst, ◌∙◌, append-nil, append_assoc, length-append, length-drop, arith}
 use Rattle.std.specs.Prelude.{if◌then◌else◌}
 use Rattle.std.proofs.lemmas.Bool.{le-leb}
 use Rattle.unftp_control_defs.specs.Bytes.{Bytes}
 use Rattle.unftp_control_defs.specs.TakingSteps.{AreReplies}
-use Rattle.unftp_control_defs.specs.ReplyLimit.{within_limit}
 use Rattle.unftp_control_defs.proofs.ReplyLemmas.{TakesReply-append, front_within}
 use Rattle.unftp_control_defs.proofs.ReplyLimitLemmas.{length-within}
 use Rattle.unftp_control_read.specs.ReplyDecoding.{BeginsWith, FindsFirst}
