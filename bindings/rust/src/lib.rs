@@ -1,8 +1,8 @@
 //! The control protocol layer of an FTP server: bytes of a control connection become typed commands
 //! or named refusals, and replies become bytes (RFC 959). The work is done by calls that are proved
 //! for all inputs, whose machine code the crate has with it; this crate makes them safe and typed.
-//! By itself it searches a few new bytes for a line feed, before a call searches them again, and
-//! cuts the text of a reply that it writes into lines.
+//! By itself it searches a few new bytes for a line feed, before a call searches them again; cuts
+//! the text of a reply that it sends or shows into lines; and says which codes are preliminary.
 //!
 //! It is a layer and no server: sockets, TLS, storage and accounts are the caller's.
 //!
