@@ -552,7 +552,7 @@ def check_codes():
 
 def header_numbers():
     """The results of the header, with their numbers."""
-    return numbers_in("include/unftp_control.h", r"^    UNFTP_(?!CODE_|TO_|LOGIN_|ADDRESS_)(\w+) = (\d+)")
+    return numbers_in("include/unftp_control.h", r"^    UNFTP_(?!CODE_|TO_|LOGIN_|ADDRESS_|KIND_)(\w+) = (\d+)")
 
 
 def equations(function):
@@ -565,6 +565,7 @@ ENUMS = {
     "TO": ("Clients", equations("to_number")),
     "LOGIN": ("Logins", equations("step_number")),
     "ADDRESS": ("Addresses", r"\bif number == (\d+)\s+then Some (\w+)"),
+    "KIND": ("FileLines", r"\bif number == (\d+) then Some kind\.(\w+)"),
 }
 
 
@@ -606,6 +607,7 @@ TYPES_IN_C = {
     "usize": [("size_t", "")],
     "u32": [("uint32_t", "")],
     "u64": [("uint64_t", "")],
+    "i64": [("int64_t", "")],
 }
 
 # what a type of bindings/rust is to C
@@ -618,6 +620,7 @@ FROM_RUST = {
     "usize": "size_t",
     "u32": "uint32_t",
     "u64": "uint64_t",
+    "i64": "int64_t",
 }
 
 # the types of results in the header, and what each is in Rust

@@ -538,13 +538,13 @@ static void check_pieces(struct bytes reply)
 /* Searches that no call leaves are refused, and change nothing. */
 static void check_searches(void)
 {
-    static const struct unftp_reply_search refused[] = {{0, 0, 4}, {2, 0, 3}, {0, 2, 1}, {0, 4, 4}};
+    static const struct unftp_reply_search invalid[] = {{0, 0, 4}, {2, 0, 3}, {0, 2, 1}, {0, 4, 4}};
     struct unftp_found_reply found;
 
-    for (size_t at = 0; at < sizeof refused / sizeof refused[0]; at++) {
-        struct unftp_reply_search search = refused[at];
+    for (size_t at = 0; at < sizeof invalid / sizeof invalid[0]; at++) {
+        struct unftp_reply_search search = invalid[at];
         wants(unftp_next_reply(&search, "220", 3, &found) == UNFTP_INVALID_ARGUMENT
-                  && memcmp(&search, &refused[at], sizeof search) == 0 && found.used == 0,
+                  && memcmp(&search, &invalid[at], sizeof search) == 0 && found.used == 0,
               "no call leaves such a search");
     }
     struct unftp_reply_search search = {9, 0, 0};
