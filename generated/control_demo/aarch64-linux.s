@@ -4,7 +4,7 @@
  *
  * made by: tools/generated --write
  * toolchain: rattle-kit-13f logic dac8208d650f15bf
- * sources: sha256 5841d7c6d1915e101e2d7a02793676745bb2fc2e1cc26b7439296688a4109b6d
+ * sources: sha256 8617849983ca7b9f21a03364af71b16a5af1e254141159b6d8e703c424ac7323
  */
 	.section	".text.std_io::io::error::Error::from_raw_os_error","ax",@progbits
 	.p2align	2
@@ -24520,8 +24520,8 @@ main:
 	str	xzr, [x24]
 	strh	w10, [sp, #80]
 	and	x10, x11, #0xff
-	adrp	x11, .Lswitch.table.main.204.rel
-	add	x11, x11, :lo12:.Lswitch.table.main.204.rel
+	adrp	x11, .Lswitch.table.main.207.rel
+	add	x11, x11, :lo12:.Lswitch.table.main.207.rel
 	ldr	q1, [sp, #1200]
 	str	w9, [sp, #1200]
 	adrp	x9, .Lswitch.table.main
@@ -25944,16 +25944,16 @@ main:
 	.xword	14
 	.size	.Lswitch.table.main, 40
 
-	.type	.Lswitch.table.main.204.rel,@object
-	.section	.rodata..Lswitch.table.main.204.rel,"a",@progbits
+	.type	.Lswitch.table.main.207.rel,@object
+	.section	.rodata..Lswitch.table.main.207.rel,"a",@progbits
 	.p2align	2, 0x0
-.Lswitch.table.main.204.rel:
-	.word	.Lstatic.110-.Lswitch.table.main.204.rel
-	.word	.Lstatic.111-.Lswitch.table.main.204.rel
-	.word	.Lstatic.112-.Lswitch.table.main.204.rel
-	.word	.Lstatic.113-.Lswitch.table.main.204.rel
-	.word	.Lstatic.114-.Lswitch.table.main.204.rel
-	.size	.Lswitch.table.main.204.rel, 20
+.Lswitch.table.main.207.rel:
+	.word	.Lstatic.110-.Lswitch.table.main.207.rel
+	.word	.Lstatic.111-.Lswitch.table.main.207.rel
+	.word	.Lstatic.112-.Lswitch.table.main.207.rel
+	.word	.Lstatic.113-.Lswitch.table.main.207.rel
+	.word	.Lstatic.114-.Lswitch.table.main.207.rel
+	.size	.Lswitch.table.main.207.rel, 20
 
 	.ident	"rattle logic=dac8208d650f15bf3e2dc313a14fa4c783a3acf887bdfab66e1714b038d9e11b"
 	.section	.text.rattle_alloc,"ax",@progbits

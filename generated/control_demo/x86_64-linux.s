@@ -4,7 +4,7 @@
  *
  * made by: tools/generated --write
  * toolchain: rattle-kit-13f logic dac8208d650f15bf
- * sources: sha256 5841d7c6d1915e101e2d7a02793676745bb2fc2e1cc26b7439296688a4109b6d
+ * sources: sha256 8617849983ca7b9f21a03364af71b16a5af1e254141159b6d8e703c424ac7323
  */
 	.section	".text.std_io::io::error::Error::from_raw_os_error","ax",@progbits
 	.p2align	4
@@ -4034,13 +4034,13 @@
 	jmp	.LBB2_923
 .LBB2_544:
 	testl	$65536, %r13d
+	movl	$28, %eax
+	movl	$21, %r12d
+	cmoveq	%rax, %r12
 	leaq	.Lstatic.80(%rip), %r15
 	leaq	.Lstatic.79(%rip), %rbx
 	movq	%rbx, %r14
 	cmoveq	%r15, %r14
-	movl	$28, %eax
-	movl	$21, %r12d
-	cmoveq	%rax, %r12
 	movl	$1, %esi
 	movq	%r12, %rdi
 	callq	rattle_alloc@PLT
@@ -27780,7 +27780,7 @@ main:
 	leaq	.Lswitch.table.main(%rip), %rcx
 	movzbl	%al, %eax
 	movq	(%rcx,%rax,8), %rbx
-	leaq	.Lswitch.table.main.204.rel(%rip), %r13
+	leaq	.Lswitch.table.main.207.rel(%rip), %r13
 	movslq	(%r13,%rax,4), %r12
 	movl	$14, %ecx
 	jmp	.LBB34_88
@@ -29040,16 +29040,16 @@ main:
 	.quad	14
 	.size	.Lswitch.table.main, 40
 
-	.type	.Lswitch.table.main.204.rel,@object
-	.section	.rodata..Lswitch.table.main.204.rel,"a",@progbits
+	.type	.Lswitch.table.main.207.rel,@object
+	.section	.rodata..Lswitch.table.main.207.rel,"a",@progbits
 	.p2align	2, 0x0
-.Lswitch.table.main.204.rel:
-	.long	.Lstatic.110-.Lswitch.table.main.204.rel
-	.long	.Lstatic.111-.Lswitch.table.main.204.rel
-	.long	.Lstatic.112-.Lswitch.table.main.204.rel
-	.long	.Lstatic.113-.Lswitch.table.main.204.rel
-	.long	.Lstatic.114-.Lswitch.table.main.204.rel
-	.size	.Lswitch.table.main.204.rel, 20
+.Lswitch.table.main.207.rel:
+	.long	.Lstatic.110-.Lswitch.table.main.207.rel
+	.long	.Lstatic.111-.Lswitch.table.main.207.rel
+	.long	.Lstatic.112-.Lswitch.table.main.207.rel
+	.long	.Lstatic.113-.Lswitch.table.main.207.rel
+	.long	.Lstatic.114-.Lswitch.table.main.207.rel
+	.size	.Lswitch.table.main.207.rel, 20
 
 	.ident	"rattle logic=dac8208d650f15bf3e2dc313a14fa4c783a3acf887bdfab66e1714b038d9e11b"
 	.section	.text.rattle_alloc,"ax",@progbits
