@@ -256,7 +256,7 @@ static uint32_t data_port_answer(struct data_port *data, enum unftp_result comma
     char parameter[DATA_PARAMETER_ROOM];
     size_t len;
     bool is_eprt = command == UNFTP_OTHER && line_len > 4 && strncasecmp(line, "EPRT", 4) == 0
-        && strchr(" \r\n", line[4]) != NULL;
+        && (line[4] == ' ' || line[4] == '\r' || line[4] == '\n');
 
     if (command != UNFTP_PASV && command != UNFTP_EPSV && command != UNFTP_PORT && !is_eprt)
         return 0;

@@ -31,6 +31,8 @@ enum {
     LOG_ROOM = 4 * LINE_LIMIT + 42,
     /* what the replies of unftp_usual_reply and unftp_login_reply have at most */
     USUAL_ROOM = 64,
+    /* what a line of LIST has besides the name, at most */
+    LIST_ROOM = 112,
     PIECE = 64 * 1024,
 
     /* an address, and the name of an interface for a link-local one */
@@ -205,19 +207,37 @@ static bool transfer_file(struct session *session, enum unftp_result command, co
     return command == UNFTP_STOR ? store(session, path) : retrieve(session, path);
 }
 
-/* Writes the names of the files, a line each; with their sizes, and a day that is none of theirs. */
-static void write_names(FILE *lines, DIR *folder, bool is_long)
+/* Writes the line of a file in LIST, with no user and no group, or in NLST. One whose name can't be
+   in a line is left out. It returns false where memory has run out. */
+static bool write_line(FILE *lines, const char *name, const struct stat *facts, bool is_long)
+{
+    struct unftp_file file = {.size = (uint64_t)facts->st_size, .modified = facts->st_mtime,
+                              .has_modified = 1, .kind = UNFTP_KIND_FILE,
+                              .mode = facts->st_mode, .links = (uint32_t)facts->st_nlink};
+    char line[NAME_MAX + LIST_ROOM];
+    size_t len;
+    enum unftp_result result = unftp_list_line(&file, time(NULL), name, strlen(name), line,
+                                               sizeof line, &len);
+
+    if (result == UNFTP_DONE && is_long)
+        fwrite(line, 1, len, lines);
+    else if (result == UNFTP_DONE)
+        fprintf(lines, "%s\r\n", name);
+    return result == UNFTP_DONE || result == UNFTP_INVALID_ARGUMENT;
+}
+
+/* Writes a line for each file; false where memory has run out. */
+static bool write_names(FILE *lines, DIR *folder, bool is_long)
 {
     const struct dirent *entry;
     struct stat facts;
 
     while ((entry = readdir(folder)) != NULL) {
-        if (stat(entry->d_name, &facts) < 0 || !S_ISREG(facts.st_mode))
-            continue;
-        if (is_long)
-            fprintf(lines, "-rw-rw-rw- 1 ftp ftp %lld Jan  1  2000 ", (long long)facts.st_size);
-        fprintf(lines, "%s\r\n", entry->d_name);
+        if (stat(entry->d_name, &facts) == 0 && S_ISREG(facts.st_mode)
+            && !write_line(lines, entry->d_name, &facts, is_long))
+            return false;
     }
+    return true;
 }
 
 /* LIST and NLST. */
@@ -227,10 +247,9 @@ static bool transfer_names(struct session *session, bool is_long)
     DIR *folder = opendir(".");
     bool is_open, is_whole = false;
 
-    if (lines != NULL && folder != NULL) {
-        write_names(lines, folder, is_long);
-        is_whole = fflush(lines) == 0 && lseek(fileno(lines), 0, SEEK_SET) == 0;
-    }
+    if (lines != NULL && folder != NULL)
+        is_whole = write_names(lines, folder, is_long) && fflush(lines) == 0
+            && lseek(fileno(lines), 0, SEEK_SET) == 0;
     is_open = is_whole ? send_file(session, fileno(lines))
                        : answer(session, UNFTP_CODE_LOCAL_ERROR, "The folder can't be read");
     if (folder != NULL)

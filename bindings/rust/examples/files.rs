@@ -11,8 +11,8 @@ use tokio::net::{TcpListener, TcpStream};
 use tokio::{fs, fs::File, time::sleep};
 use tokio_util::codec::Framed;
 use unftp_control::{
-    list_line, CodecError, Command, DataPort, Event, FileStatus, FtpLineCodec, Login, LoginStep,
-    OwnedLine, Reply, ReplyCode as Code,
+    list_line, CodecError, Command, DataPort, Error, Event, FileStatus, FtpLineCodec, Login,
+    LoginStep, OwnedLine, Reply, ReplyCode as Code,
 };
 
 /// The name and the password that it takes.
@@ -124,19 +124,23 @@ impl Session {
         let (mut lines, mut entries) = (Vec::new(), fs::read_dir(&self.folder).await?);
         while let Some(entry) = entries.next_entry().await? {
             let (metadata, name) = (entry.metadata().await?, entry.file_name());
+            if !metadata.is_file() {
+                continue;
+            }
             let file = FileStatus { uid: 0, gid: 0, ..FileStatus::from(&metadata) };
             match list_line(&file, SystemTime::now(), name.as_bytes()) {
-                Ok(line) if metadata.is_file() && is_long => lines.extend(line),
-                Ok(_) if metadata.is_file() => lines.extend([name.as_bytes(), b"\r\n"].concat()),
-                // no line can have this name, or it is no file
-                _ => {}
+                Ok(line) if is_long => lines.extend(line),
+                Ok(_) => lines.extend([name.as_bytes(), b"\r\n"].concat()),
+                // no line can have this name
+                Err(Error::InvalidName) => {}
+                Err(error) => return Err(io::Error::other(error)),
             }
         }
         Ok(lines)
     }
 }
 
-fn out_of_memory(_: unftp_control::Error) -> Reply {
+fn out_of_memory(_: Error) -> Reply {
     Reply::new(Code::LOCAL_ERROR, "Out of memory")
 }
 
