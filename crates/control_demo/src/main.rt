@@ -6,9 +6,9 @@
 //! error.
 #![tactic(auto)]
 
-ghost use Rattle.std.specs.Prelude.{Bool, ℕ, None, false, IfErr, IfOk};
+ghost use Rattle.std.specs.Prelude.{Bool, ℕ, None, false, IfErr, IfOk, OnOk};
 ghost use Rattle.unftp_control_defs.specs.Input.{input_state_of};
-ghost use Rattle.unftp_control_serve.specs.Service.{ServeEnded, Serves};
+ghost use Rattle.unftp_control_serve.specs.Service.{AreReadBack, ServeEnded, Serves};
 ghost use Rattle.unftp_control_serve.specs.Writing.{output_state_of};
 ghost use Rattle.control_demo.specs.Responses.{responses_law};
 ghost use Rattle.unftp_control_defs.specs.Run.{as_session};
@@ -40,6 +40,9 @@ pub fn run<R: Read, W: Write>(
         })
         (input_state_of R.remaining reader.old)
         (input_state_of R.remaining reader.new) served) }
+    // A client reads these replies, and nothing else, where each of them is plain.
+    ensures read_back { OnOk result (AreReadBack None (as_session responses_law) false
+        (input_state_of R.remaining reader.old) (input_state_of R.remaining reader.new)) }
     // What is so at each error, for some last state of the handler and count of its failures.
     ensures err { IfErr result (λ error. (quit : Bool) × (failures : ℕ)
         × ServeEnded None (as_session responses_law)

@@ -9,7 +9,7 @@ use Rattle.std.proofs.lemmas.List.Folds.{concat-append}
 use Rattle.unftp_control_defs.specs.Bytes.{Bytes}
 use Rattle.unftp_control_defs.specs.Events.{events}
 use Rattle.unftp_control_defs.specs.Run.{SessionLaw, run_for}
-use Rattle.unftp_control_serve.specs.Endings.{AllAnswered, PieceOutcome, Snapshot}
+use Rattle.unftp_control_serve.specs.Endings.{RunFinished, PieceOutcome, Snapshot}
 use Rattle.unftp_control_serve.specs.Engine.{EngineState, IsFed, IsRunning, LacksPieceRoom, bytes_with, more_left}
 use Rattle.unftp_control_serve.specs.declared.error.ServeError.{ServeError}
 use Rattle.unftp_control_serve.proofs.SoFarLemmas.{AnsweredSoFar, AnsweredSoFar-ended, AnsweredSoFar-on, RunFailed-on, gone_on}
@@ -27,7 +27,7 @@ module _ {S : Type 0} {law : SessionLaw S} {m n : Snapshot S} {sent : Bytes} {en
   pub AnsweredSoFar-more : {k : Snapshot S} {engine' : EngineState}
       → (IsRunning engine → IsFed law n.state engine piece engine')
       → (IsRunning engine
-      → AllAnswered law n (run_for engine.limit law n.state (bytes_with engine piece)) k)
+      → RunFinished law n (run_for engine.limit law n.state (bytes_with engine piece)) k)
       → (engine.finished ≡ true → (k ≡ n) × (engine' ≡ more_left engine piece))
       → AnsweredSoFar None law m k (sent ++ piece) engine'
   AnsweredSoFar-more {k} {engine'} is answered over = by_end engine.finished refl

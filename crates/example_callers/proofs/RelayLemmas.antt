@@ -9,7 +9,7 @@ use Rattle.unftp_control_read.specs.declared.errors.NextReplyError.{NextReplyErr
 use Rattle.unftp_control_serve.specs.ClientLines.{front_line}
 use Rattle.unftp_control_write.specs.Forwarding.{IsForwarded}
 use Rattle.unftp_control_proxy.specs.ProxyAnswers.{is_answer}
-use Rattle.unftp_control_proxy.specs.ProxyCalls.{AnsweredBy, GivesNext, IsDecidable, IsLookedFor, MayBeSent, SentAs, after_fate}
+use Rattle.unftp_control_proxy.specs.ProxyCalls.{AnsweredBy, GivesNext, IsDecidable, IsScannedFor, MayBeSent, SentAs, after_fate}
 use Rattle.unftp_control_proxy.specs.Traffic.{IsTraffic, Traffic, joined_traffic, no_traffic, one_answer, one_line, one_reply}
 use Rattle.unftp_control_proxy.specs.declared.proxy.NextReply.{NextReply}
 use Rattle.unftp_control_proxy.specs.declared.proxy.NextReply.TheVariants as given
@@ -44,7 +44,7 @@ module _ (x y : Connection) where
   nothing_passes same client server = by no_traffic
       (subst (IsTraffic x.proxy no_traffic) (sym same) (nothing x.proxy)) (kept client) (kept server)
 
-  pub looked_passes : IsLookedFor x.proxy y.proxy → y.to_client.items ≡ x.to_client.items
+  pub looked_passes : IsScannedFor x.proxy y.proxy → y.to_client.items ≡ x.to_client.items
       → y.to_server.items ≡ x.to_server.items → Passes x y
   looked_passes is client server =
       by no_traffic (found_only x.proxy y.proxy is) (kept client) (kept server)

@@ -2,7 +2,7 @@
 use Rattle.std.specs.Prelude.{◌≡◌, ◌⊎◌, None, List, [], ◌∷◌, ◌++◌, Result, MatchResult}
 use Rattle.std.specs.List.{concat}
 use Rattle.unftp_control_defs.specs.Bytes.{Bytes}
-use Rattle.unftp_control_serve.specs.Endings.{AllAnswered, RunFailed, Snapshot}
+use Rattle.unftp_control_serve.specs.Endings.{RunFinished, RunFailed, Snapshot}
 use Rattle.unftp_control_defs.specs.Events.{FtpEvent, events}
 use Rattle.unftp_control_defs.specs.Run.{SessionLaw, run_for}
 use Rattle.unftp_control_serve.specs.declared.error.ServeError.{ServeError}
@@ -12,7 +12,7 @@ use Rattle.unftp_control_serve.specs.declared.error.ServeError.TheVariants.{OutO
 abbrev pub HasNoRoom : {S : Type 0} → SessionLaw S → Snapshot S → Bytes → Bytes → Snapshot S
     → ServeError → Type 0
 HasNoRoom law before first last after error = (error ≡ OutOfMemory) × ¬ (last ≡ [])
-    × AllAnswered law before (events None first) after
+    × RunFinished law before (events None first) after
 
 -- At one of the pieces there was no memory for it, or the run failed at one of its lines.
 pub record FailsAtPiece {S : Type 0} (law : SessionLaw S) (before : Snapshot S)
@@ -30,5 +30,5 @@ pub record FailsAtPiece {S : Type 0} (law : SessionLaw S) (before : Snapshot S)
 abbrev pub AnswersPieces : {S T : Type 0} → SessionLaw S → Snapshot S → List Bytes → Snapshot S
     → Result T ServeError → Type 0
 AnswersPieces law before pieces after result = MatchResult result
-    (λ _. AllAnswered law before (run_for None law before.state (concat pieces)) after)
+    (λ _. RunFinished law before (run_for None law before.state (concat pieces)) after)
     (λ error. FailsAtPiece law before pieces after error)

@@ -4,7 +4,7 @@ use Rattle.unftp_control_defs.specs.Bytes.{Bytes}
 use Rattle.unftp_control_serve.specs.Endings.{Snapshot}
 use Rattle.unftp_control_defs.specs.Input.{InputState}
 use Rattle.unftp_control_defs.specs.Run.{SessionLaw}
-use Rattle.unftp_control_serve.specs.Service.{AnsweredAll, ServeEnded}
+use Rattle.unftp_control_serve.specs.Service.{ServedInPieces, ServeEnded}
 use Rattle.unftp_control_login.specs.SessionState.{snapshot}
 use Rattle.unftp_control_serve.specs.Writing.{OutputState}
 use Rattle.unftp_control_serve.specs.declared.error.ServeError.{ServeError}
@@ -27,5 +27,5 @@ abbrev pub SessionEnded : {S : Type 0} → Option ℕ → SessionLaw S → Snaps
     → InputState
     → InputState → Result Served ServeError → Type 0
 SessionEnded limit law before after input input' result = MatchResult result
-    (AnsweredAll limit law before after input input')
+    (ServedInPieces limit law before after input input')
     (ServeEnded limit law before after input input')

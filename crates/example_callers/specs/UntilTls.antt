@@ -6,7 +6,7 @@ use Rattle.unftp_control_defs.specs.FtpCommand.{Auth}
 use Rattle.unftp_control_defs.specs.FtpReply.{CodeAndMsg}
 use Rattle.unftp_control_defs.specs.Run.{Law, after_end, as_session, ends_for, text_for}
 use Rattle.unftp_control_defs.specs.Input.{InputState, HasRead}
-use Rattle.unftp_control_serve.specs.Service.{AnsweredAll}
+use Rattle.unftp_control_serve.specs.Service.{ServedInPieces}
 use Rattle.unftp_control_serve.specs.Writing.{HasWritten, OutputState}
 use Rattle.unftp_control_serve.specs.declared.service.Served.{Served}
 use Rattle.unftp_control_login.specs.SessionState.{snapshot}
@@ -34,7 +34,7 @@ pub record BeginsTls (before after : OutputState) (input input' : InputState) (b
   pub is_done : Bool
   pub failures : ℕ
   pub served : Served
-  pub answered : AnsweredAll (Some 512) (as_session until_tls) (snapshot false 0 before)
+  pub answered : ServedInPieces (Some 512) (as_session until_tls) (snapshot false 0 before)
       (snapshot is_done failures after) input input' served
   pub begins_so : begins ≡ (served.done && (served.left == 0))
 

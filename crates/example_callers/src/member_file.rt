@@ -5,9 +5,9 @@ ghost use Rattle.unftp_control_defs.specs.Bytes.{Bytes};
 ghost use Rattle.unftp_control_defs.specs.Input.{HasRead, input_state_of};
 ghost use Rattle.unftp_control_login.specs.Asked.{IsClosed, asked_law};
 ghost use Rattle.unftp_control_login.specs.CallsOf.{failures_of};
-ghost use Rattle.unftp_control_login.specs.GateState.{gate_snapshot, gated};
+ghost use Rattle.unftp_control_login.specs.GateState.{asked_gate, gate_snapshot, gated};
 ghost use Rattle.unftp_control_login.specs.Promises.{MembersAlone, guarded};
-ghost use Rattle.unftp_control_serve.specs.Service.{ServeEnded, Serves};
+ghost use Rattle.unftp_control_serve.specs.Service.{AreReadBack, ServeEnded, Serves};
 ghost use Rattle.unftp_control_serve.specs.Writing.{HasWritten, output_state_of};
 
 use crate::transfers::{DataConnection, Transfers, laws};
@@ -53,6 +53,10 @@ pub fn serve_file<R: Read, W: Write, A: Accounts, D: DataConnection>(
         writer.old)
         (gate_snapshot A.accepts (state_of D.answers) transfer_failures W.contents gate.new
         writer.new)
+        (input_state_of R.remaining reader.old) (input_state_of R.remaining reader.new)) }
+    ensures read_back { OnOk result (AreReadBack (Some LINE_LIMIT)
+        (asked_law (transfers_law (D.answers gate.new.inner.handler.connection)))
+        (asked_gate A.accepts (state_of D.answers) gate.old)
         (input_state_of R.remaining reader.old) (input_state_of R.remaining reader.new)) }
     // 150 and 226 come only after a name and a password that the accounts accept
     ensures members { IsClosed (gated A.accepts (state_of D.answers) gate.old)

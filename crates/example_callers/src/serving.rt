@@ -1,8 +1,8 @@
 //! A connection served to its end.
-ghost use Rattle.std.specs.Prelude.{◌+◌, ◌≤◌, None, Some, IfErr, IfOk};
+ghost use Rattle.std.specs.Prelude.{◌+◌, ◌≤◌, None, Some, IfErr, IfOk, OnOk};
 ghost use Rattle.unftp_control_serve.specs.Endings.{snapshot_of};
 ghost use Rattle.unftp_control_defs.specs.Input.{input_state_of};
-ghost use Rattle.unftp_control_serve.specs.Service.{ServeEnded, Serves};
+ghost use Rattle.unftp_control_serve.specs.Service.{AreReadBack, ServeEnded, Serves};
 
 use std::alloc::Global;
 use std::io::{Read, Write};
@@ -18,6 +18,9 @@ pub fn serve_connection<R: Read, W: Write, H: Session>(
     ensures serves { IfOk result (Serves None (H.law (H.heard handler.new))
         (snapshot_of H.state H.failures W.contents handler.old output.old)
         (snapshot_of H.state H.failures W.contents handler.new output.new)
+        (input_state_of R.remaining input.old) (input_state_of R.remaining input.new)) }
+    ensures read_back { OnOk result (AreReadBack None (H.law (H.heard handler.new))
+        (H.state handler.old)
         (input_state_of R.remaining input.old) (input_state_of R.remaining input.new)) }
     ensures err { IfErr result (ServeEnded None (H.law (H.heard handler.new))
         (snapshot_of H.state H.failures W.contents handler.old output.old)
@@ -41,6 +44,9 @@ pub fn serve_stranger<R: Read, W: Write, H: Session>(
     ensures serves { IfOk result (Serves (Some LINE_LIMIT) (H.law (H.heard handler.new))
         (snapshot_of H.state H.failures W.contents handler.old output.old)
         (snapshot_of H.state H.failures W.contents handler.new output.new)
+        (input_state_of R.remaining input.old) (input_state_of R.remaining input.new)) }
+    ensures read_back { OnOk result (AreReadBack (Some LINE_LIMIT) (H.law (H.heard handler.new))
+        (H.state handler.old)
         (input_state_of R.remaining input.old) (input_state_of R.remaining input.new)) }
     ensures bound { IfOk result (λ served. served.held ≤ LINE_LIMIT + 4096) }
     ensures err { IfErr result (ServeEnded (Some LINE_LIMIT) (H.law (H.heard handler.new))

@@ -11,9 +11,9 @@ ghost use Rattle.unftp_control_defs.specs.Bytes.{Bytes};
 ghost use Rattle.unftp_control_defs.specs.Input.{HasRead, input_state_of};
 ghost use Rattle.unftp_control_login.specs.Asked.{IsClosed};
 ghost use Rattle.unftp_control_login.specs.CallsOf.{failures_of};
-ghost use Rattle.unftp_control_login.specs.GateState.{gate_snapshot, gated};
+ghost use Rattle.unftp_control_login.specs.GateState.{asked_gate, gate_snapshot, gated};
 ghost use Rattle.unftp_control_login.specs.Promises.{MembersAlone};
-ghost use Rattle.unftp_control_serve.specs.Service.{ServeEnded, Serves};
+ghost use Rattle.unftp_control_serve.specs.Service.{AreReadBack, ServeEnded, Serves};
 ghost use Rattle.unftp_control_serve.specs.Writing.{HasWritten, output_state_of};
 ghost use Rattle.login_demo.specs.Guarded.{failures_of_files, first_gate, guarded_law, state_of_files};
 
@@ -77,6 +77,10 @@ pub fn run<R: Read, W: Write, A: Accounts>(
     ensures serves { IfOk result (Serves (Some LIMIT) guarded_law
         (gate_snapshot A.accepts state_of_files failures_of_files W.contents gate.old writer.old)
         (gate_snapshot A.accepts state_of_files failures_of_files W.contents gate.new writer.new)
+        (input_state_of R.remaining reader.old) (input_state_of R.remaining reader.new)) }
+    // A client reads these replies, and nothing else, where each of them is plain.
+    ensures read_back { OnOk result (AreReadBack (Some LIMIT) guarded_law
+        (asked_gate A.accepts state_of_files gate.old)
         (input_state_of R.remaining reader.old) (input_state_of R.remaining reader.new)) }
     // Whatever was read: where a client reads in what was written a reply that reports no failure,
     // among those to a command that needs a login, the accounts have accepted a name and its

@@ -16,7 +16,7 @@ use Rattle.unftp_control_codecs.specs.declared.FirstLine.TheVariants.{Incomplete
 use Rattle.unftp_control_codecs.proofs.FirstLineLemmas.{CountsLine, Finds}
 use Rattle.unftp_control_c.specs.declared.next.Connection.{Connection}
 use Rattle.unftp_control_c.specs.declared.status.Status.TheVariants.{More, NoRoom, OutOfMemory, InvalidArgument}
-use Rattle.unftp_control_c.specs.Next.{AreTexts, Call, HasTexts, Left, Leaves, by_first_line, codec_of, first_of, given_for, given_left, gives, is_valid, kept, line_limit, next_codec, next_of, resumed, used_up, without_room, written_for}
+use Rattle.unftp_control_c.specs.Next.{AreTexts, NextCall, HasTexts, Left, Leaves, by_first_line, codec_of, first_of, given_for, given_left, gives, is_valid, kept, line_limit, next_codec, next_of, resumed, used_up, without_room, written_for}
 use Rattle.unftp_control_c.specs.Numbers.{status_number}
 use Rattle.unftp_control_c.specs.Taking.{Caller, after_piece, given_by, gives_none, is_made_again}
 use Rattle.unftp_control_c.proofs.PlaceLemmas.{given_found}
@@ -36,7 +36,7 @@ event_texts (Err InvalidUtf8) texts = λ few. absurd (omega (arith, few))
 event_texts (Err InvalidEol) texts = λ few. absurd (omega (arith, few))
 
 -- the first line of a call, and its event
-pub record FirstEvent (call : Call) : Type 0 where
+pub record FirstEvent (call : NextCall) : Type 0 where
   pub line : Bytes
   pub event : FtpEvent
   pub front : take (length line) call.bytes ≡ line
@@ -52,13 +52,13 @@ pub record FirstEvent (call : Call) : Type 0 where
       → TakesEvent (line_limit call.connection.limit) (dropped ++ call.bytes) event
       (drop (length line) call.bytes)
 
-abbrev pub has_room : (call : Call) → FirstEvent call → Bool
+abbrev pub has_room : (call : NextCall) → FirstEvent call → Bool
 has_room call first =
     nat_le (length (written_for first.line (given_for first.event))) (length call.area)
 
 -- what a call leaves: it is no call; or no line is complete; or there is one, and room for it, or
 -- none; or memory ran out
-pub data NextLeft (call : Call) : Left → Type 0 where
+pub data NextLeft (call : NextCall) : Left → Type 0 where
   invalid : is_valid call.connection (length call.bytes) ≡ false
       → NextLeft call (kept call InvalidArgument)
   asks : (n : ℕ) → is_valid call.connection (length call.bytes) ≡ true
@@ -86,7 +86,7 @@ answer_gives (Err InvalidCommand) = refl
 answer_gives (Err InvalidUtf8) = refl
 answer_gives (Err InvalidEol) = refl
 
-module _ (call : Call) where
+module _ (call : NextCall) where
   left_first : (first : FirstEvent call)
       → NextLeft call (gives call first.line (given_for first.event))
   left_first first = cond_both (has_room call first)
@@ -140,7 +140,7 @@ module _ (call : Call) where
   left_so left (inr ran_out) = rw ran_out.1 no_memory
 
 -- it is read where it is
-pub given_is : {call : Call} (first : FirstEvent call)
+pub given_is : {call : NextCall} (first : FirstEvent call)
     → given_by call.bytes (given_left call first.line (given_for first.event))
     ≡ given_for first.event ∷ []
 given_is {call} first =
@@ -148,7 +148,7 @@ given_is {call} first =
     rw (first.some, found.0, found.1) refl
 
 -- and is UTF-8
-pub texts_left : {call : Call} (left : Left) → NextLeft call left → HasTexts call.bytes left
+pub texts_left : {call : NextCall} (left : Left) → NextLeft call left → HasTexts call.bytes left
 texts_left {call} _ (gave first room) few =
     let found = given_found call first.line first.front (given_for first.event) in
     rw (found.0, found.1) (first.texts few)

@@ -16,15 +16,15 @@ use Rattle.unftp_control_codecs.specs.declared.FirstLine.TheVariants.{TooLong, C
 use Rattle.unftp_control_codecs.proofs.FirstLineLemmas.{Counts, counts}
 use Rattle.unftp_control_c.specs.declared.status.Status.TheVariants.{LineTooLong}
 use Rattle.unftp_control_c.specs.Numbers.{fault_status, kind_status}
-use Rattle.unftp_control_c.specs.Next.{Call, Left, Leaves, LeavesLine, at_next_line, by_first_line, codec_of, first_of, given_for, given_of, gives, is_valid, next_codec, next_of, resumed, used_up}
+use Rattle.unftp_control_c.specs.Next.{NextCall, Left, Leaves, LeavesLine, at_next_line, by_first_line, codec_of, first_of, given_for, given_of, gives, is_valid, next_codec, next_of, resumed, used_up}
 
 -- a line that gives no command takes no room
-pub fault_left : (call : Call) (line : Bytes) (fault : Fault)
+pub fault_left : (call : NextCall) (line : Bytes) (fault : Fault)
     → gives call line (given_for (Refused fault))
     ≡ used_up call (fault_status fault) (length line) (at_next_line call.connection)
 fault_left call line fault = rw (le-leb 0 (length call.area) (omega arith)) refl
 
-pub refused_left : (call : Call) (line : Bytes) (kind : ParseErrorKind)
+pub refused_left : (call : NextCall) (line : Bytes) (kind : ParseErrorKind)
     → IsRefusal (outcome line) kind
     → gives call line (given_for (event_of (outcome line)))
     ≡ used_up call (kind_status kind) (length line) (at_next_line call.connection)
@@ -42,7 +42,7 @@ pub said_given : (answer : Outcome) (parts : Said) → IsSaid answer parts
 said_given (Ok command) parts says = ap given_of says.1
 said_given (Err refusal) parts says = absurd says.1
 
-module _ (call : Call) (valid : is_valid call.connection (length call.bytes) ≡ true) where
+module _ (call : NextCall) (valid : is_valid call.connection (length call.bytes) ≡ true) where
   pub offset_within : call.connection.offset ≤ length call.bytes
   offset_within = grind (arith, nat_tests, valid)
 

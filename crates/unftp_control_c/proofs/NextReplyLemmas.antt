@@ -6,7 +6,7 @@ use Rattle.unftp_control_defs.specs.Bytes.{Bytes}
 use Rattle.unftp_control_defs.specs.TakingSteps.{AreReplies}
 use Rattle.unftp_control_defs.proofs.ReplyLemmas.{TakesReply-append, front_within}
 use Rattle.unftp_control_defs.proofs.ReplyLimitLemmas.{length-within}
-use Rattle.unftp_control_read.specs.ReplyDecoding.{BeginsWith, FindsFirst}
+use Rattle.unftp_control_read.specs.ReplyDecoding.{BeginsWithReply, FindsFirst}
 use Rattle.unftp_control_read.specs.declared.errors.NextReplyError.TheVariants as error
 use Rattle.unftp_control_read.proofs.DecoderLemmas.{searched_more}
 use Rattle.unftp_control_read.proofs.SearchLemmas.{nothing_searched}
@@ -49,7 +49,7 @@ counted call left =
 record Does (call : ReplyCall) (left : ReplyLeft) : Type 0 where
   searched : IsSearchOf (next_call call left)
   count : counted call left + unsearched (next_call call left) ≡ unsearched call
-  takes : (BeginsWith (line_limit call.search.limit) call.bytes left.reply.code left.reply.used
+  takes : (BeginsWithReply (line_limit call.search.limit) call.bytes left.reply.code left.reply.used
       × (code_by left ≡ left.reply.code ∷ []))
       ⊎ ((drop left.reply.used call.bytes ≡ call.bytes) × (code_by left ≡ []))
 
@@ -84,8 +84,8 @@ does call left so f = by_found f.found f.first f.result_is f.reply_is f.search f
         → LeavesSearch call found left.search → call.search.offset ≤ stops_at call left
         → Does call left
     by_found (Ok (Some first)) begins is reply left_search goes_on =
-        let front : BeginsWith (line_limit call.search.limit) call.bytes left.reply.code left.reply.used =
-        subst (λ (r : FoundReply). BeginsWith (line_limit call.search.limit) call.bytes r.code r.used)
+        let front : BeginsWithReply (line_limit call.search.limit) call.bytes left.reply.code left.reply.used =
+        subst (λ (r : FoundReply). BeginsWithReply (line_limit call.search.limit) call.bytes r.code r.used)
         (sym reply) begins in
         let count : counted call left ≡ left.reply.used - call.search.offset = rw is refl in
         let goes : call.search.offset ≤ left.reply.used = rw is at goes_on in
@@ -161,7 +161,7 @@ replies_taken (Called left ∷ steps) now after so are =
     let did = does now left so (are.0.finds so) in
     by_taken did.takes (replies_taken steps (next_call now left) after did.searched are.1)
   where
-    by_taken : ((BeginsWith (line_limit now.search.limit) now.bytes left.reply.code left.reply.used
+    by_taken : ((BeginsWithReply (line_limit now.search.limit) now.bytes left.reply.code left.reply.used
         × (code_by left ≡ left.reply.code ∷ []))
         ⊎ ((drop left.reply.used now.bytes ≡ now.bytes) × (code_by left ≡ [])))
         → Takes (next_call now left) steps after → Takes now (Called left ∷ steps) after

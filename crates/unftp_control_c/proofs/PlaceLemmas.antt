@@ -8,7 +8,7 @@ use lib.Pointwise.{bytes_decides}
 use Rattle.unftp_control_codecs.specs.WordsMeaning.{EndsAfterByte}
 use Rattle.unftp_control_commands.specs.Areas.{overwritten}
 use Rattle.unftp_control_defs.specs.Bytes.{Bytes, crlf}
-use Rattle.unftp_control_c.specs.Next.{Call, Given, given_left, has_end, line_text, name_in, value_place, value_in}
+use Rattle.unftp_control_c.specs.Next.{NextCall, Given, given_left, has_end, line_text, name_in, value_place, value_in}
 use Rattle.unftp_control_c.proofs.AreaLemmas.{parts_apart}
 
 -- bytes that a line begins
@@ -91,7 +91,7 @@ module _ (line value : Bytes) (some : 0 < length value) (end : EndsAfterByte lin
   usual_some = omega (arith, front_long, some_front)
 
 -- the name and the value of a line that was given
-module _ (call : Call) (line : Bytes) (front : take (length line) call.bytes ≡ line)
+module _ (call : NextCall) (line : Bytes) (front : take (length line) call.bytes ≡ line)
     (given : Given) where
   abbrev at : ℕ
   at = value_place line given.value

@@ -20,7 +20,7 @@ use Rattle.unftp_control_c.specs.declared.status.Status.TheVariants.{More, OutOf
 use Rattle.unftp_control_c.specs.Numbers.{status_number, fault_status}
 use Rattle.unftp_control_commands.specs.Areas.{overwritten}
 
-pub record Call : Type 0 where
+pub record NextCall : Type 0 where
   -- what the caller keeps of the connection
   pub connection : Connection
   -- the pending bytes
@@ -35,7 +35,7 @@ pub record Left : Type 0 where
   -- how many bytes are used up, how long the name and the value are, and where the value is
   pub line : Line
 
-abbrev pub call_with : Connection → Bytes → Bytes → Call
+abbrev pub call_with : Connection → Bytes → Bytes → NextCall
 call_with connection bytes area =
     record { connection = connection; bytes = bytes; area = area }
 
@@ -62,15 +62,15 @@ codec_of connection = record {
 }
 
 -- the first line of the pending bytes, if it is complete
-abbrev pub first_of : Call → FirstLine
+abbrev pub first_of : NextCall → FirstLine
 first_of call = first_line (codec_of call.connection) call.bytes
 
 -- where the codec then is
-abbrev pub next_codec : Call → Codec
+abbrev pub next_codec : NextCall → Codec
 next_codec call = goes_on (codec_of call.connection) call.bytes
 
 -- how many bytes a call scans for a line feed
-abbrev pub scans : Call → ℕ
+abbrev pub scans : NextCall → ℕ
 scans call = (next_codec call).tests
 
 -- the next call goes on where the codec is
@@ -87,12 +87,12 @@ abbrev pub no_lengths : Line
 no_lengths = record { used = 0; name_len = 0; value_len = 0; value_at = 0 }
 
 -- so many bytes are used up, and no name and value are given
-abbrev pub used_up : Call → Status → ℕ → Connection → Left
+abbrev pub used_up : NextCall → Status → ℕ → Connection → Left
 used_up call status n connection =
     left_with (status_number status) connection call.area (record no_lengths { used = n })
 
 -- nothing changes
-abbrev pub kept : Call → Status → Left
+abbrev pub kept : NextCall → Status → Left
 kept call status = used_up call status 0 call.connection
 
 -- What a caller is given for a line: the number of a command, the name that the number doesn't say,
@@ -103,8 +103,8 @@ pub record Given : Type 0 where
   pub value : Bytes
 
 -- what the code holds of it
-abbrev pub meant : CodeGiven → Given
-meant given =
+abbrev pub given_meant : CodeGiven → Given
+given_meant given =
     record { number = given.number; name = upper given.name.now; value = given.value.now }
 
 -- what is said of a command, with an empty value where it has none
@@ -151,7 +151,7 @@ lengths_of n line given = record {
 }
 
 -- The line is used up, and given.
-abbrev pub given_left : Call → Bytes → Given → Left
+abbrev pub given_left : NextCall → Bytes → Given → Left
 given_left call line given = left_with given.number (at_next_line call.connection)
     (overwritten (written_for line given) call.area) (lengths_of (length line) line given)
 
@@ -160,10 +160,10 @@ abbrev pub needed_room : Line → ℕ
 needed_room line = line.name_len + (if nat_lt 0 line.value_at then 0 else line.value_len)
 
 -- Nothing is used up, and so much room is needed.
-abbrev pub without_room : Call → Bytes → Given → Left
+abbrev pub without_room : NextCall → Bytes → Given → Left
 without_room call line given = record (kept call NoRoom) { line = lengths_of 0 line given }
 
-abbrev pub gives : Call → Bytes → Given → Left
+abbrev pub gives : NextCall → Bytes → Given → Left
 gives call line given = if nat_le (length (written_for line given)) (length call.area)
     then given_left call line given
     else without_room call line given
@@ -192,7 +192,7 @@ HasTexts bytes left =
 
 -- Where no line is complete, the bytes stay, or are dropped where the line is too long already. A
 -- line that is too long is given as such, whatever it holds, and any other as its outcome.
-abbrev pub by_first_line : Call → FirstLine → Left
+abbrev pub by_first_line : NextCall → FirstLine → Left
 by_first_line call (Incomplete n) =
     used_up call More n (resumed call.connection (next_codec call))
 by_first_line call (TooLong n) =
@@ -201,29 +201,29 @@ by_first_line call (Complete n) =
     gives call (take n call.bytes) (given_for (event_of (outcome (take n call.bytes))))
 
 -- what a call leaves, where memory is there
-abbrev pub next_of : Call → Left
+abbrev pub next_of : NextCall → Left
 next_of call = if is_valid call.connection (length call.bytes)
     then by_first_line call (first_of call)
     else kept call InvalidArgument
 
 -- a complete line that may take memory
-abbrev pub LineMayTakeMemory : Call → Type 0
+abbrev pub LineMayTakeMemory : NextCall → Type 0
 LineMayTakeMemory call = (n : ℕ) × (is_valid call.connection (length call.bytes) ≡ true)
     × (first_of call ≡ Complete n) × MayTakeMemory (take n call.bytes)
 
 -- The command is given. Memory may run out for one that holds some, and whose value has to be put
 -- together.
-abbrev pub GivesCommand : Call → Bytes → Outcome → Type 0 → Left → Type 0
+abbrev pub GivesCommand : NextCall → Bytes → Outcome → Type 0 → Left → Type 0
 GivesCommand call line answer in_place left =
     (left ≡ gives call line (given_for (event_of answer)))
     ⊎ (¬ in_place × OutcomeMayTakeMemory answer × (left ≡ kept call OutOfMemory))
 
 -- what is left after a complete line that is not too long
-abbrev pub LeavesLine : Call → Bytes → Left → Type 0
+abbrev pub LeavesLine : NextCall → Bytes → Left → Type 0
 LeavesLine call line left =
     (left ≡ gives call line (given_for (event_of (outcome line))))
     ⊎ (MayTakeMemory line × (left ≡ kept call OutOfMemory))
 
-abbrev pub Leaves : Call → Left → Type 0
+abbrev pub Leaves : NextCall → Left → Type 0
 Leaves call left = (left ≡ next_of call)
     ⊎ (LineMayTakeMemory call × (left ≡ kept call OutOfMemory))

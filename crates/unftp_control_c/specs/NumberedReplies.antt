@@ -6,7 +6,7 @@ use Rattle.unftp_control_defs.specs.FtpCommand.{number}
 use Rattle.unftp_control_defs.specs.FtpReply.{FtpReply, encoded}
 use Rattle.unftp_control_defs.specs.declared.verb.Verb.TheVariants as verb
 use Rattle.unftp_control_commands.specs.UsualReplies.{long_line, no_memory, refusal_reply, reply_by_number}
-use Rattle.unftp_control_login.specs.Gate.{Answers, Decision, LogsIn, PassesOn, Refuses, logged_in, login_needed, name_needed, not_accepted, password_needed}
+use Rattle.unftp_control_login.specs.Gate.{Answers, GateDecision, LogsIn, PassesOn, Refuses, logged_in, login_needed, name_needed, not_accepted, password_needed}
 use Rattle.unftp_control_login.specs.declared.stage.LoginStep.{LoginStep}
 use Rattle.unftp_control_login.specs.declared.stage.LoginStep.TheVariants.{AskAccounts, NeedLogin, NeedName, NeedPassword, PassOn}
 use Rattle.unftp_control_c.specs.declared.status.Status.TheVariants.{InvalidArgument, InvalidCommand, InvalidEol, InvalidUtf8, LineTooLong, OutOfMemory}
@@ -58,7 +58,7 @@ abbrev pub login_bytes : ℕ → ℕ → Made
 login_bytes step accepted = encoded_or_invalid (step_reply (step_of step) (nat_lt 0 accepted))
 
 -- the reply of a gate's own to an event, which it has but where it passes the event on
-abbrev pub own_reply : Decision → Option FtpReply
+abbrev pub own_reply : GateDecision → Option FtpReply
 own_reply (Answers reply) = Some reply
 own_reply (Refuses reply) = Some reply
 own_reply (LogsIn name) = Some logged_in

@@ -1,10 +1,10 @@
 -- Calls of `unftp_next`, and what they leave, as examples write them: in one line.
 use Rattle.std.specs.Prelude.{ℕ}
 use Rattle.unftp_control_defs.specs.Bytes.{Bytes}
-use Rattle.unftp_control_c.specs.Next.{Call, Left, call_with, left_with}
+use Rattle.unftp_control_c.specs.Next.{NextCall, Left, call_with, left_with}
 
 -- the pending bytes, the offset, whether bytes were dropped, the limit, and the area
-abbrev pub a_call : Bytes → ℕ → ℕ → ℕ → Bytes → Call
+abbrev pub a_call : Bytes → ℕ → ℕ → ℕ → Bytes → NextCall
 a_call bytes offset skipping limit area =
     call_with (record { limit = limit; offset = offset; skipping = skipping }) bytes area
 

@@ -6,7 +6,7 @@ use Rattle.unftp_control_defs.specs.Events as fault
 use Rattle.unftp_control_c.specs.declared.next.Connection.{Connection}
 use Rattle.unftp_control_c.specs.declared.status.Status.TheVariants.{More, OutOfMemory, NoRoom}
 use Rattle.unftp_control_c.specs.Numbers.{status_number}
-use Rattle.unftp_control_c.specs.Next.{Call, Given, Leaves, Left, call_with, name_in, scans, value_in}
+use Rattle.unftp_control_c.specs.Next.{NextCall, Given, Leaves, Left, call_with, name_in, scans, value_in}
 
 -- what a caller has of a connection from call to call
 pub record Caller : Type 0 where
@@ -25,7 +25,7 @@ after_piece caller piece =
     record { connection = caller.connection; bytes = caller.bytes ++ piece }
 
 -- a call with this area
-abbrev pub caller_call : Caller → Bytes → Call
+abbrev pub caller_call : Caller → Bytes → NextCall
 caller_call caller area = call_with caller.connection caller.bytes area
 
 -- the bytes that a call used up are dropped

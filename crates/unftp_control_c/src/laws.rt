@@ -28,7 +28,7 @@ ghost use Rattle.unftp_control_c.specs.Clients.{dialogue_of, may_begin_tls, new_
 ghost use Rattle.unftp_control_c.specs.ExchangeLines.{IsExchangeLine};
 ghost use Rattle.unftp_control_c.specs.LogLines.{IsLogLine, numbered_hides, numbered_log_line};
 ghost use Rattle.unftp_control_c.specs.Logins.{KeepsSame, event_role, kept_after, kept_after_all, progress_of, stage_number};
-ghost use Rattle.unftp_control_c.specs.Next.{Call, Given, Leaves, Left, given_for, line_limit, needed_room, scans};
+ghost use Rattle.unftp_control_c.specs.Next.{NextCall, Given, Leaves, Left, given_for, line_limit, needed_room, scans};
 ghost use Rattle.unftp_control_c.specs.NextReply.{IsSearchIn, ReplyCall, is_valid_search, reply_call, seen_length};
 ghost use Rattle.unftp_control_c.specs.Numbers.{status_number};
 ghost use Rattle.unftp_control_c.specs.Parameters.{list_path_bytes, parameter_bytes};
@@ -122,11 +122,11 @@ pub fn events_are_given_apart()
 /// How large the areas of the calls have to be.
 pub fn rooms_are_bounded()
     // The name and the value of a line of n bytes have at most 3 n bytes.
-    ensures line { (call : Call) (left : Left) (k : ℕ) → Leaves call left
+    ensures line { (call : NextCall) (left : Left) (k : ℕ) → Leaves call left
         → line_feed_from call.bytes call.connection.offset ≡ Some k
         → left.line.name_len + left.line.value_len ≤ 3 * (k + 1) }
     // So an area of three times the limit has room for each line.
-    ensures limit { (call : Call) (left : Left) → Leaves call left
+    ensures limit { (call : NextCall) (left : Left) → Leaves call left
         → 1 ≤ call.connection.limit → 3 * call.connection.limit ≤ length call.area
         → left.result ≢ status_number NoRoom }
     // The reply of one line of n bytes has at most n + 6 bytes.

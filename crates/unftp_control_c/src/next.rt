@@ -7,7 +7,7 @@ ghost use Rattle.unftp_control_defs.specs.Said.{IsSaid};
 ghost use Rattle.unftp_control_defs.specs.Verbs.{upper};
 ghost use Rattle.unftp_control_commands.specs.Areas.{overwritten};
 ghost use Rattle.unftp_control_message.specs.PartsMeaning.{IsInPlace, said_of};
-ghost use Rattle.unftp_control_c.specs.Next.{GivesCommand, HasTexts, Leaves, LeavesLine, call_with, codec_of, given_of, gives, is_valid, left_with, line_text, meant, no_lengths, resumed, scans, used_up, value_place};
+ghost use Rattle.unftp_control_c.specs.Next.{GivesCommand, HasTexts, Leaves, LeavesLine, call_with, codec_of, given_of, gives, is_valid, left_with, line_text, given_meant, no_lengths, resumed, scans, used_up, value_place};
 
 use crate::status::{Status, kind_status};
 use itoa::Buffer;
@@ -290,7 +290,7 @@ fn give_made(
 #[inline(always)]
 fn given_of_parts<'a>(parts: Parts<'a>, digits: &'a mut Buffer) -> Given<'a>
     requires { IsInPlace parts.value }
-    ensures { meant result ≡ given_of (said_of parts.entry) }
+    ensures { given_meant result ≡ given_of (said_of parts.entry) }
 {
     Given {
         number: parts.verb.number(),
@@ -311,7 +311,7 @@ fn give(
     line: &mut Line,
 ) -> u32
     ensures { (pending : Bytes) → left_with result connection.new area.new line.new
-        ≡ gives (call_with connection.old pending area.old) bytes.now (meant given.entry) }
+        ≡ gives (call_with connection.old pending area.old) bytes.now (given_meant given.entry) }
 {
     let Given {
         number,

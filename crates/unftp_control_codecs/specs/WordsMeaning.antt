@@ -67,8 +67,8 @@ IsOfRow None line words = IsUnruled line words
 IsOfRow (Some ruled) line words = IsOfKind (kind ruled) ruled line words
 
 -- the line begins with these words
-abbrev pub BeginsWith : Bytes → Words → Type 0
-BeginsWith line words = IsOfRow (row_of (upper (verb_of line)) verbs) line words
+abbrev pub BeginsWithWords : Bytes → Words → Type 0
+BeginsWithWords line words = IsOfRow (row_of (upper (verb_of line)) verbs) line words
 
 -- the bytes end with these, where they are any after another byte
 abbrev pub EndsAfterByte : Bytes → Bytes → Type 0

@@ -4,7 +4,7 @@ use Rattle.std.specs.List.{AllByRecursion, list_all}
 use Rattle.std.proofs.lemmas.Bool.{and_parts, false≢true}
 use Rattle.unftp_control_defs.proofs.RuleLemmas.{found}
 use Rattle.std.specs.Prelude.{option_and_then}
-use Rattle.unftp_control_codecs.specs.WordsMeaning.{BeginsWith, IsOfRow, IsUntyped}
+use Rattle.unftp_control_codecs.specs.WordsMeaning.{BeginsWithWords, IsOfRow, IsUntyped}
 use Rattle.unftp_control_codecs.specs.declared.line_parser.parser.Words.{Words}
 use Rattle.unftp_control_defs.specs.Bytes.{Bytes}
 use Rattle.unftp_control_defs.specs.ComputedValue.{value_of}
@@ -59,7 +59,7 @@ by_row (Some ruled) line words row is =
     (λ other. not_other (upper (verb_of line)) (row ∙ ap Some other)) (λ site. cc)
     ∙ (λ i. if shows_after (sym is.0 i) words.name.now then Some words.parameter.now else None)
 
-pub shown : (line : Bytes) (words : Words) → BeginsWith line words → shown_parameter line
+pub shown : (line : Bytes) (words : Words) → BeginsWithWords line words → shown_parameter line
     ≡ (if shows_after words.verb words.name.now then Some words.parameter.now else None)
 shown line words begins = by_row (row_of (upper (verb_of line)) verbs) line words refl begins
 
@@ -68,7 +68,7 @@ not_empty [] e = absurd (false≢true (sym e))
 not_empty (b ∷ v) e = refl
 
 -- the value that is shown of words whose parameter has this one
-pub value_shown : (line : Bytes) (words : Words) (value : Option Bytes) → BeginsWith line words
+pub value_shown : (line : Bytes) (words : Words) (value : Option Bytes) → BeginsWithWords line words
     → value ≡ value_of words.parameter.now → shown_value line
     ≡ (if shows_after words.verb words.name.now then option_and_then unless_empty value else None)
 value_shown line words value begins is = by_test (shows_after words.verb words.name.now)
@@ -87,7 +87,7 @@ by_test true parameter = refl
 by_test false parameter = refl
 
 -- what is shown of a line decides it, but for SYST and HELP
-by_shown : (line : Bytes) (words : Words) → BeginsWith line words
+by_shown : (line : Bytes) (words : Words) → BeginsWithWords line words
     → not (is_some (option_and_then value_of (shown_parameter line)))
     ≡ not (shows_after words.verb words.name.now && is_some (value_of words.parameter.now))
 by_shown line words begins = ap not
@@ -103,7 +103,7 @@ plain : (verb ruled : Ruled) (name : Bytes) (value : Option Bytes) → verb ≡ 
 plain verb ruled name value is ruled_plain =
     subst (λ verb. IsPlain verb name value) (sym is) ruled_plain
 
-hides_row : (row : Option Ruled) (line : Bytes) (words : Words) → BeginsWith line words
+hides_row : (row : Option Ruled) (line : Bytes) (words : Words) → BeginsWithWords line words
     → IsOfRow row line words
     → hides_by row line ≡ hides_after words.verb words.name.now (value_of words.parameter.now)
 hides_row None line words begins is =
@@ -117,7 +117,7 @@ hides_row (Some verbs_of.Site) line words begins is = by_shown line words begins
 hides_row (Some ruled) line words begins is =
     by_shown line words begins ∙ sym (plain words.verb ruled words.name.now _ is.0 refl)
 
-pub hidden : (line : Bytes) (words : Words) → BeginsWith line words
+pub hidden : (line : Bytes) (words : Words) → BeginsWithWords line words
     → hides_by (row_of (upper (verb_of line)) verbs) line
     ≡ hides_after words.verb words.name.now (value_of words.parameter.now)
 hidden line words begins = hides_row (row_of (upper (verb_of line)) verbs) line words begins begins
@@ -139,7 +139,7 @@ of_words answer verb name value line untyped is =
 
 -- a command hides what its words hide
 pub hides_command : (answer : Outcome) (parts : Said) (line : Bytes) (words : Words)
-    (value : Option Bytes) → BeginsWith line words → value ≡ value_of words.parameter.now
+    (value : Option Bytes) → BeginsWithWords line words → value ≡ value_of words.parameter.now
     → MeansCommand answer (record parts { name = upper parts.name })
     → hides_after words.verb words.name.now value ≡ hides (event_of answer) line
 hides_command (Ok command) parts line words value begins is said =

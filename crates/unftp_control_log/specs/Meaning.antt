@@ -6,9 +6,9 @@ use Rattle.unftp_control_log.specs.LogLine.{Visible, Verb, Subcommand, RefusedLi
 use Rattle.unftp_control_log.specs.declared.visible.Visible as code
 use Rattle.unftp_control_log.specs.declared.visible.Visible.TheVariants as variant
 
-abbrev pub meant : code.Visible → Visible
-meant (variant.Verb verb value) = Verb (upper verb.now) (option_map sent_value value)
-meant (variant.Subcommand name arguments) =
+abbrev pub visible_meant : code.Visible → Visible
+visible_meant (variant.Verb verb value) = Verb (upper verb.now) (option_map sent_value value)
+visible_meant (variant.Subcommand name arguments) =
     Subcommand (upper name.now) (option_map sent_value arguments)
-meant (variant.Refused verb reason) =
+visible_meant (variant.Refused verb reason) =
     RefusedLine (option_map (λ verb. upper verb.now) verb) reason.now

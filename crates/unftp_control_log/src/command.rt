@@ -4,7 +4,7 @@ ghost use Rattle.unftp_control_defs.specs.Verbs.{upper};
 ghost use Rattle.unftp_control_message.specs.PartsMeaning.{said_value, spelled};
 ghost use Rattle.unftp_control_message.specs.SentValues.{sent_value};
 ghost use Rattle.unftp_control_log.specs.LogLine.{Verb as ShownVerb, asterisks, is_listed, shows_arguments, visible_other, visible_said, visible_site, visible_value, visible_verb};
-ghost use Rattle.unftp_control_log.specs.Meaning.{meant};
+ghost use Rattle.unftp_control_log.specs.Meaning.{visible_meant};
 
 use crate::visible::Visible;
 use crate::words::{is_listed, shows_arguments};
@@ -22,7 +22,7 @@ pub(crate) fn visible_parts<'a>(
     sent: Option<Sent<'a>>,
     digits: &'a mut Buffer,
 ) -> Visible<'a>
-    ensures { meant result
+    ensures { visible_meant result
         ≡ visible_said (spelled parts.now) (option_map sent_value sent.entry) }
 {
     let value = visible_value(parts.value, sent, digits);
@@ -31,7 +31,7 @@ pub(crate) fn visible_parts<'a>(
 
 /// What a log shows of a verb with this name and value.
 pub(crate) fn visible_verb<'a>(verb: Verb, name: &'a [u8], value: Option<Sent<'a>>) -> Visible<'a>
-    ensures { meant result ≡ visible_verb verb name.now (option_map sent_value value.entry) }
+    ensures { visible_meant result ≡ visible_verb verb name.now (option_map sent_value value.entry) }
 {
     let word = verb.word().as_bytes();
     match verb {
@@ -66,7 +66,7 @@ fn visible_value<'a>(
 
 /// A verb whose value is hidden.
 fn hidden_value(verb: &[u8]) -> Visible<'_>
-    ensures { meant result ≡ ShownVerb (upper verb.now) (Some asterisks) }
+    ensures { visible_meant result ≡ ShownVerb (upper verb.now) (Some asterisks) }
 {
     Visible::Verb {
         verb,
@@ -76,7 +76,7 @@ fn hidden_value(verb: &[u8]) -> Visible<'_>
 
 /// A verb with no rule of its own: nothing is shown of one that is not listed.
 fn visible_other(verb: &[u8]) -> Visible<'_>
-    ensures { meant result ≡ visible_other (is_listed verb.now) (upper verb.now) }
+    ensures { visible_meant result ≡ visible_other (is_listed verb.now) (upper verb.now) }
 {
     if is_listed(verb) {
         hidden_value(verb)
@@ -90,7 +90,7 @@ fn visible_other(verb: &[u8]) -> Visible<'_>
 
 /// A subcommand of SITE, and its arguments where they are shown.
 fn visible_site<'a>(name: &'a [u8], arguments: Option<Sent<'a>>) -> Visible<'a>
-    ensures { meant result ≡ visible_site (shows_arguments name.now) (upper name.now)
+    ensures { visible_meant result ≡ visible_site (shows_arguments name.now) (upper name.now)
         (option_map sent_value arguments.entry) }
 {
     match shows_arguments(name) {

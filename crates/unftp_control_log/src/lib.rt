@@ -8,7 +8,7 @@ ghost use Rattle.unftp_control_defs.specs.Outcome.{outcome};
 ghost use Rattle.unftp_control_defs.specs.Room.{LacksRoom};
 ghost use Rattle.unftp_control_codecs.specs.Memory.{IsRefusal};
 ghost use Rattle.unftp_control_log.specs.LogLine.{hides, hides_part, log_line, logged, visible};
-ghost use Rattle.unftp_control_log.specs.Meaning.{meant};
+ghost use Rattle.unftp_control_log.specs.Meaning.{visible_meant};
 ghost use Rattle.unftp_control_serve.specs.EventMeaning.{event_meant};
 
 mod command;
@@ -35,7 +35,7 @@ use unftp_control_serve::Event;
 
 /// What a log shows of the event; `digits` has room for those of a number. No memory is taken.
 fn visible_event<'a>(event: &'a Event, line: &'a [u8], digits: &'a mut Buffer) -> Visible<'a>
-    ensures { meant result ≡ visible (event_meant event.now) line.now }
+    ensures { visible_meant result ≡ visible (event_meant event.now) line.now }
 {
     match event {
         Event::Command(command) => {
@@ -50,7 +50,7 @@ fn visible_event<'a>(event: &'a Event, line: &'a [u8], digits: &'a mut Buffer) -
 /// What a log shows of the event of a line, without making its command, and whether that is not all
 /// of the line. The value is read only where it has a type of its own. No memory is taken.
 fn logged_line<'a>(line: &'a [u8], digits: &'a mut Buffer) -> Logged<'a>
-    ensures visible { meant result.visible ≡ visible (event_of (outcome line.now)) line.now }
+    ensures visible { visible_meant result.visible ≡ visible (event_of (outcome line.now)) line.now }
     ensures hides { result.hides ≡ hides (event_of (outcome line.now)) line.now }
 {
     let words = Words::of(line);
@@ -78,7 +78,7 @@ fn logged_line<'a>(line: &'a [u8], digits: &'a mut Buffer) -> Logged<'a>
 /// What a log shows of a line that is refused so.
 fn logged_refusal<'a>(refused: ParseErrorKind, line: &'a [u8]) -> Logged<'a>
     requires { IsRefusal (outcome line.now) refused }
-    ensures visible { meant result.visible ≡ visible (event_of (outcome line.now)) line.now }
+    ensures visible { visible_meant result.visible ≡ visible (event_of (outcome line.now)) line.now }
     ensures hides { result.hides ≡ hides (event_of (outcome line.now)) line.now }
 {
     Logged {

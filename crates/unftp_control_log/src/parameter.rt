@@ -1,6 +1,6 @@
 //! What a log shows of a line's parameter.
 ghost use Rattle.std.specs.Prelude.{◌≡◌, option_map};
-ghost use Rattle.unftp_control_codecs.specs.WordsMeaning.{BeginsWith};
+ghost use Rattle.unftp_control_codecs.specs.WordsMeaning.{BeginsWithWords};
 ghost use Rattle.unftp_control_defs.specs.Bytes.{Bytes};
 ghost use Rattle.unftp_control_defs.specs.ComputedValue.{value_of};
 ghost use Rattle.unftp_control_log.specs.LogLine.{hides_after, shown_value, shows_after};
@@ -25,7 +25,7 @@ fn shows_parameter(words: Words<'_>) -> bool
 /// The value of the parameter of these words, which is sent so, where it is shown and not empty.
 /// No memory is taken.
 pub(crate) fn shown_value<'a>(words: Words<'_>, sent: Option<Sent<'a>>) -> Option<Sent<'a>>
-    ensures { (line : Bytes) → BeginsWith line words.entry
+    ensures { (line : Bytes) → BeginsWithWords line words.entry
         → option_map sent_value sent.entry ≡ value_of words.entry.parameter.now
         → option_map sent_value result ≡ shown_value line }
 {

@@ -2,7 +2,7 @@
 ghost use Rattle.std.specs.Prelude.{◌≡◌, option_map};
 ghost use Rattle.unftp_control_defs.specs.Verbs.{upper};
 ghost use Rattle.unftp_control_log.specs.LogLine.{RefusedLine, listed_verb, reason};
-ghost use Rattle.unftp_control_log.specs.Meaning.{meant};
+ghost use Rattle.unftp_control_log.specs.Meaning.{visible_meant};
 ghost use Rattle.unftp_control_message.specs.ErrorMeaning.{fault_of};
 
 use crate::visible::Visible;
@@ -31,7 +31,7 @@ pub(crate) fn reason(error: &ControlChanError) -> &'static str
 
 /// What a log shows of a line that was refused for this reason. No memory is taken.
 pub(crate) fn visible_refusal<'a>(why: &'static str, line: &'a [u8]) -> Visible<'a>
-    ensures { meant result ≡ RefusedLine (listed_verb line.now) why.now }
+    ensures { visible_meant result ≡ RefusedLine (listed_verb line.now) why.now }
 {
     Visible::Refused {
         verb: listed_verb(line),

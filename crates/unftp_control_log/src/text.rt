@@ -4,7 +4,7 @@ ghost use Rattle.std.specs.List.{AllByRecursion};
 ghost use Rattle.unftp_control_defs.specs.Room.{LacksRoom};
 ghost use Rattle.unftp_control_defs.specs.Verbs.{upper};
 ghost use Rattle.unftp_control_log.specs.LogLine.{IsShownPlain, RefusedLine, shown, visible_text};
-ghost use Rattle.unftp_control_log.specs.Meaning.{meant};
+ghost use Rattle.unftp_control_log.specs.Meaning.{visible_meant};
 ghost use Rattle.unftp_control_message.specs.SentValues.{first_unit_len, sent_value, unescaped};
 ghost use Rattle.unftp_control_write.specs.Lines.{spaced_part};
 
@@ -168,9 +168,9 @@ fn append_refusal(verb: Option<&[u8]>, reason: &str, buf: &mut Vec<u8>) -> Resul
 /// Appends what is shown, or perhaps a part of it when out of memory.
 fn append_parts(visible: &Visible<'_>, buf: &mut Vec<u8>) -> Result<(), AllocError>
     ensures ok { OnOk result
-        (buf.new.items ≡ buf.old.items ++ visible_text (meant visible.now)) }
+        (buf.new.items ≡ buf.old.items ++ visible_text (visible_meant visible.now)) }
     ensures kept { take (vec_len buf.old) buf.new.items ≡ buf.old.items }
-    ensures memory { OnErr result (LacksRoom buf.old (visible_text (meant visible.now))) }
+    ensures memory { OnErr result (LacksRoom buf.old (visible_text (visible_meant visible.now))) }
 {
     match visible {
         Visible::Verb { verb, value } => {
@@ -189,9 +189,9 @@ fn append_parts(visible: &Visible<'_>, buf: &mut Vec<u8>) -> Result<(), AllocErr
 /// Appends what is shown. When out of memory, the buffer is as it was.
 pub(crate) fn append_visible(visible: &Visible<'_>, buf: &mut Vec<u8>) -> Result<(), AllocError>
     ensures ok { OnOk result
-        (buf.new.items ≡ buf.old.items ++ visible_text (meant visible.now)) }
+        (buf.new.items ≡ buf.old.items ++ visible_text (visible_meant visible.now)) }
     ensures err { OnErr result (buf.new.items ≡ buf.old.items) }
-    ensures memory { OnErr result (LacksRoom buf.old (visible_text (meant visible.now))) }
+    ensures memory { OnErr result (LacksRoom buf.old (visible_text (visible_meant visible.now))) }
 {
     let length = buf.len();
     let written = append_parts(visible, buf);

@@ -7,7 +7,7 @@ use Rattle.unftp_control_defs.specs.Bytes.{Bytes}
 use Rattle.unftp_control_defs.specs.Events.{FtpEvent, events}
 use Rattle.unftp_control_defs.specs.FtpReply.{encoded}
 use Rattle.unftp_control_defs.specs.Run.{SessionLaw, after, all_replies, last_state, replies_by_event, replies_to, run_for, run_of, text_for, turn}
-use Rattle.unftp_control_login.specs.HandlerCalls.{Call}
+use Rattle.unftp_control_login.specs.HandlerCalls.{HandlerCall}
 use Rattle.unftp_control_login.specs.Gate.{Gated, gated_law, questions}
 use Rattle.unftp_control_login.specs.Asked.{AskedGate, IsClosed, all_questions, asked_law}
 use Rattle.unftp_control_login.specs.Promises.{guarded}
@@ -20,12 +20,12 @@ module _ {S : Type 0} (law : SessionLaw S) where
   abbrev both : SessionLaw (AskedGate S)
   both = asked_law law
 
-  abbrev having : List Call → Gated S → AskedGate S
+  abbrev having : List HandlerCall → Gated S → AskedGate S
   having asked s = record { gate = s; asked = asked }
 
   -- an event
-  module _ (asked : List Call) (s : Gated S) (event : FtpEvent) where
-    abbrev then_asked : List Call
+  module _ (asked : List HandlerCall) (s : Gated S) (event : FtpEvent) where
+    abbrev then_asked : List HandlerCall
     then_asked = asked ++ questions s.stage event
 
     asked-after : after both (having asked s) event ≡ having then_asked (after gate s event)
@@ -35,7 +35,7 @@ module _ {S : Type 0} (law : SessionLaw S) where
     asked-replies = turn_replies-lifted (having then_asked) (turn gate s event)
 
   -- and several
-  asked-run : (asked : List Call) (s : Gated S) (events : List FtpEvent)
+  asked-run : (asked : List HandlerCall) (s : Gated S) (events : List FtpEvent)
       → run_of both (having asked s) events ≡ run_of gate s events
   asked-run asked s [] = refl
   asked-run asked s (event ∷ events) =
@@ -45,7 +45,7 @@ module _ {S : Type 0} (law : SessionLaw S) where
       ∙ ap (λ run. event ∷ (if gate.done n then [] else run))
       (asked-run (then_asked asked s event) n events)
 
-  asked-by-event : (asked : List Call) (s : Gated S) (events : List FtpEvent)
+  asked-by-event : (asked : List HandlerCall) (s : Gated S) (events : List FtpEvent)
       → replies_by_event both (having asked s) events ≡ replies_by_event gate s events
   asked-by-event asked s [] = refl
   asked-by-event asked s (event ∷ events) =
@@ -56,7 +56,7 @@ module _ {S : Type 0} (law : SessionLaw S) where
       ∙ ap (λ later. replies_to gate s event ∷ later)
       (asked-by-event (then_asked asked s event) (after gate s event) events)
 
-  asked-last : (asked : List Call) (s : Gated S) (events : List FtpEvent)
+  asked-last : (asked : List HandlerCall) (s : Gated S) (events : List FtpEvent)
       → last_state both (having asked s) events
       ≡ having (asked ++ all_questions law s events) (last_state gate s events)
   asked-last asked s [] = ap (λ asked. having asked s) (sym (append-nil asked))
@@ -68,7 +68,7 @@ module _ {S : Type 0} (law : SessionLaw S) where
       (append_assoc asked (questions s.stage event) (all_questions law n events))
 
   -- over an input
-  module _ (limit : Option ℕ) (asked : List Call) (s : Gated S) (input : Bytes) where
+  module _ (limit : Option ℕ) (asked : List HandlerCall) (s : Gated S) (input : Bytes) where
     pub asked-text : text_for limit both (having asked s) input ≡ text_for limit gate s input
     asked-text = ap (λ turns. flat_map encoded (all_replies turns))
         (ap (replies_by_event both (having asked s)) (asked-run asked s (events limit input))

@@ -9,7 +9,7 @@ use denote.Builtin.{unit}
 use denote.RattleType.{Valss}
 use denote.Steps.{nothing}
 use denote.Struct.Struct.{within}
-use Rattle.unftp_control_login.specs.HandlerCalls.{Call}
+use Rattle.unftp_control_login.specs.HandlerCalls.{HandlerCall}
 use Rattle.unftp_control_login.specs.contracts.calls.Calls.{the_row, the_view, the_invariant}
 use Rattle.unftp_control_login.specs.contracts.calls.Calls.TheInside as Inside
 use Rattle.unftp_control_login.specs.declared.calls.Calls.TheInside as Fields
@@ -19,7 +19,7 @@ abbrev pub sealed : Val
 sealed = vstruct (vcons vunit vnil)
 
 pub calls_made : {M : Type 1} {𝓤 : Ura M} {𝓛 : Logic 𝓤} {K : Type 0} {Γ : List (Item 𝓤)}
-    {G : Goal 𝓤 𝓛.H} → K → (n : List Call)
+    {G : Goal 𝓤 𝓛.H} → K → (n : List HandlerCall)
     → Step K 𝓛 (‵ (the_row.own_val n (sealed ∷ [])) ∷ Γ) G Γ G
 calls_made t n = step (λ s.
     let made : Fields.Inside = record { seal = tt; calls = n } in

@@ -8,9 +8,9 @@ use Rattle.unftp_control_message.specs.ErrorMeaning.{fault_of}
 use Rattle.unftp_control_message.specs.declared.reply.error.ControlChanError.{ControlChanError}
 use Rattle.unftp_control_message.specs.declared.reply.Reply.{Reply}
 use Rattle.unftp_control_serve.specs.Answering.{FirstAnswer, FurtherAnswer}
-use Rattle.unftp_control_login.specs.HandlerCalls.{AllCalled, AsksFurther, Call, CallState, CallsMade, FailedCall, FailsIn, Makes, Passes, Plan, asks_for, called, failed_at, tells}
+use Rattle.unftp_control_login.specs.HandlerCalls.{AllCalled, AsksFurther, HandlerCall, CallState, CallsMade, FailedCall, FailsIn, Makes, Passes, Plan, asks_for, called, failed_at, tells}
 
-counted : (call : Call) (state : CallState)
+counted : (call : HandlerCall) (state : CallState)
     → (failed_at call state).refused + (failed_at call state).failed
     ≡ state.refused + state.failed + 1
 counted (Makes reply) state = omega arith
@@ -100,11 +100,11 @@ module _ {S T : Type 0} {law : SessionLaw S} {plan : Plan S} {before after : Cal
       failed-fails law after (fault_of error) plan before calls.made
 
 -- One call of the handler, which counts its own failures.
-abbrev with_failures : List Call → ℕ → ℕ → CallState
+abbrev with_failures : List HandlerCall → ℕ → ℕ → CallState
 with_failures calls refused failures =
     record { calls = calls; refused = refused; failed = failures }
 
-module _ {S : Type 0} {law : SessionLaw S} {s s' : S} {failures failures' : ℕ} (calls : List Call)
+module _ {S : Type 0} {law : SessionLaw S} {s s' : S} {failures failures' : ℕ} (calls : List HandlerCall)
     (refused : ℕ) where
   pub first-made : {event : FtpEvent} (result : Result Reply ControlChanError)
       → FirstAnswer law s s' failures failures' event result

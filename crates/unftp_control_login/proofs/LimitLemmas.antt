@@ -7,7 +7,7 @@ use Rattle.unftp_control_defs.specs.Events.{FtpEvent, Command, is_quit}
 use Rattle.unftp_control_defs.specs.FtpCommand.{Pass, Quit}
 use Rattle.unftp_control_defs.specs.FtpReply.{FtpReply}
 use Rattle.unftp_control_defs.specs.Run.{SessionLaw, after, turn_replies, state_after, replies_to}
-use Rattle.unftp_control_login.specs.Gate.{Decision, Gated, LogsIn, Refuses, decided, decides, decision_at, gated_law, is_passed, is_refusal, limited, name_needed, not_accepted, password_in, reply_by, state_by, unlimited}
+use Rattle.unftp_control_login.specs.Gate.{GateDecision, Gated, LogsIn, Refuses, decided, decides, decision_at, gated_law, is_passed, is_refusal, limited, name_needed, not_accepted, password_in, reply_by, state_by, unlimited}
 use Rattle.unftp_control_login.specs.Login.{Accounts, login_step, role_in}
 use Rattle.unftp_control_login.specs.declared.stage.Progress.{Progress}
 use Rattle.unftp_control_login.specs.declared.stage.Progress.TheVariants.{LoggedIn, Named}
@@ -23,7 +23,7 @@ on-left false zero done e = absurd (false≢true (sym e))
 on-left false (suc left) done e = omega arith
 
 -- Without a limit a decision stays.
-none-limited : (decision : Decision) → limited None decision ≡ decision
+none-limited : (decision : GateDecision) → limited None decision ≡ decision
 none-limited (Refuses reply) = refl
 none-limited decision = refl
 
@@ -47,7 +47,7 @@ module _ {S : Type 0} (law : SessionLaw S) where
   refuses s event = is_refusal (decided s.accepts s.stage event)
 
   -- whether a reply reports a failure, where this is decided
-  abbrev fails : Gated S → Decision → Bool
+  abbrev fails : Gated S → GateDecision → Bool
   fails s decision = has_failure (reply_by law s.inner decision
       ∷ turn_replies (cond (is_passed decision) (law.more (state_by law s.inner decision)) []))
 
@@ -155,7 +155,7 @@ module _ {S : Type 0} (law : SessionLaw S) where
   -- While more than one may fail, and where none does, a limit changes nothing.
   module _ (s : Gated S) (left : ℕ) (event : FtpEvent) (is : s.left ≡ Some left)
       (few : (1 < left) ⊎ (failed (unlimited s) event ≡ false)) where
-    abbrev own : Decision
+    abbrev own : GateDecision
     own = decided s.accepts s.stage event
 
     refused-few : is_refusal own ≡ true → 1 < left

@@ -19,7 +19,7 @@ use Rattle.unftp_control_login.specs.declared.stage.LoginStep.{LoginStep}
 use Rattle.unftp_control_login.specs.declared.stage.LoginStep.TheVariants.{AskAccounts, NeedLogin, NeedName, NeedPassword, PassOn}
 use Rattle.unftp_control_login.specs.declared.stage.Stage.{Stage}
 use Rattle.unftp_control_login.specs.Login.{Accounts, GaveName, IsLoggedIn, is_login, login_step, needs_login, role_in}
-use Rattle.unftp_control_login.specs.Gate.{Answers, Decision, Gated, LogsIn, PassesOn, Refuses, decided, decides, decision_at, gated_law, is_logged_in, is_passed, limited, logged_in, login_needed, name_needed, nobody, not_accepted, password_in, password_needed, reply_by, stage_after_all, state_by}
+use Rattle.unftp_control_login.specs.Gate.{Answers, GateDecision, Gated, LogsIn, PassesOn, Refuses, decided, decides, decision_at, gated_law, is_logged_in, is_passed, limited, logged_in, login_needed, name_needed, nobody, not_accepted, password_in, password_needed, reply_by, stage_after_all, state_by}
 use Rattle.unftp_control_login.specs.LoginLimit.{is_last, is_used_up, too_many}
 use Rattle.unftp_control_login.specs.Promises.{AfterLogin, AtEachPlace, IsPlainExchange, IsTurnedAway, LearnsName, MembersAlone, NoFailure, ReachesHandler, SendsPlainExchanges, ServesMembersAlone, guarded}
 use Rattle.unftp_control_login.proofs.StageLemmas.{GaveName-stage, IsLoggedIn-stage, closed-step, gate-after, gate-more, logged_in-stage, passed-step, passed_more, turn_replies-lifted}
@@ -33,7 +33,7 @@ all-of P (x ∷ xs) each = (each x, all-of P xs each)
 -- What the gate does with an event that is neither USER nor PASS.
 module _ {S : Type 0} (law : SessionLaw S) (s : Gated S) (event : FtpEvent) where
   -- its turn, if this is decided
-  abbrev Turns : Decision → List FtpReply → S → Type 0
+  abbrev Turns : GateDecision → List FtpReply → S → Type 0
   Turns decision sent inner =
       (reply_by law s.inner decision
       ∷ turn_replies (if is_passed decision then law.more (state_by law s.inner decision) else [])
@@ -41,7 +41,7 @@ module _ {S : Type 0} (law : SessionLaw S) (s : Gated S) (event : FtpEvent) wher
       × (state_after (state_by law s.inner decision)
       (if is_passed decision then law.more (state_by law s.inner decision) else []) ≡ inner)
 
-  pub turned : {sent : List FtpReply} {inner : S} {decision : Decision}
+  pub turned : {sent : List FtpReply} {inner : S} {decision : GateDecision}
       → decides s event ≡ decision → Turns decision sent inner
       → (replies_to (gated_law law) s event ≡ sent)
       × ((after (gated_law law) s event).inner ≡ inner)
@@ -156,7 +156,7 @@ sends-later law s t event sends same on = subst (SendsPlainExchanges law) (sym s
     ((λ i. (sym (ap law.done same) ∙ on) i || ends law (after law s event) before) ∙ goes_on))
 
 -- The gate's own replies are final ones,
-abbrev OwnFinal : Decision → Type 0
+abbrev OwnFinal : GateDecision → Type 0
 OwnFinal (Answers reply) = IsFinal reply
 OwnFinal (Refuses reply) = IsFinal reply
 OwnFinal (LogsIn name) = IsFinal logged_in
@@ -200,7 +200,7 @@ gate-turn {S = S} law s event sends = by_decision (decides s event) refl (decide
     λ on. subst (SendsPlainExchanges law) (sym turn.1) sends,
   )
 
-  by_decision : (decision : Decision) → decides s event ≡ decision → OwnFinal decision
+  by_decision : (decision : GateDecision) → decides s event ≡ decision → OwnFinal decision
       → IsPlainExchange (replies_to (gated_law law) s event)
       × (law.done n ≡ false → SendsPlainExchanges law n)
   by_decision (Answers reply) is own =

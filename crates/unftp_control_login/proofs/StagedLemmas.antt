@@ -6,7 +6,7 @@ use Rattle.unftp_control_defs.specs.Run.{SessionLaw, after, last_state, state_af
 use Rattle.unftp_control_login.specs.declared.stage.Stage.{Stage}
 use Rattle.unftp_control_login.specs.Login.{Accounts}
 use Rattle.unftp_control_login.specs.HandlerCalls.{FailsIn, calls_in}
-use Rattle.unftp_control_login.specs.Gate.{Decision, Gated, PassesOn, all_calls_by, calls_by, decided, decides, gated_law, is_passed, attempts_after, limited, reply_by, stage_after, stage_after_all, state_by}
+use Rattle.unftp_control_login.specs.Gate.{GateDecision, Gated, PassesOn, all_calls_by, calls_by, decided, decides, gated_law, is_passed, attempts_after, limited, reply_by, stage_after, stage_after_all, state_by}
 use Rattle.unftp_control_login.specs.Promises.{gate_calls}
 use Rattle.unftp_control_login.proofs.StageLemmas.{after-lifted, lifted, lifted-lifted}
 
@@ -37,7 +37,7 @@ module _ {S : Type 0} (law : SessionLaw S) where
   gate = gated_law law
 
   -- all replies to an event of which this is decided, with the states after them
-  abbrev next_by : Accounts → Stage → Gated S → Option ℕ → Decision → Bool → Gated S
+  abbrev next_by : Accounts → Stage → Gated S → Option ℕ → GateDecision → Bool → Gated S
   next_by accepts stage s left decision quit = record {
     accepts = accepts;
     left = left;
@@ -47,14 +47,14 @@ module _ {S : Type 0} (law : SessionLaw S) where
     inner = state_by law s.inner decision;
   }
 
-  abbrev turn_by : Accounts → Stage → Gated S → Option ℕ → Decision → Bool
+  abbrev turn_by : Accounts → Stage → Gated S → Option ℕ → GateDecision → Bool
       → List (FtpReply × Gated S)
   turn_by accepts stage s left decision quit =
       let n = next_by accepts stage s left decision quit in
       (reply_by law s.inner decision, n) ∷ gate.more n
 
   turn-lifted : (accepts : Accounts) (stage : Stage) (s : Gated S) (left : Option ℕ)
-      (decision : Decision) (quit : Bool)
+      (decision : GateDecision) (quit : Bool)
       → turn_by accepts stage s left decision quit
       ≡ lifted (at accepts stage) (turn_by s.accepts s.stage s left decision quit)
   turn-lifted accepts stage s left (PassesOn event) quit =

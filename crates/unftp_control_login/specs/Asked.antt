@@ -3,13 +3,13 @@ use Rattle.std.specs.Prelude.{◌≡◌, ℕ, false, List, ◌++◌, flat_map, m
 use Rattle.unftp_control_defs.specs.Bytes.{Bytes}
 use Rattle.unftp_control_defs.specs.Events.{FtpEvent}
 use Rattle.unftp_control_defs.specs.Run.{SessionLaw, at_each, run_for}
-use Rattle.unftp_control_login.specs.HandlerCalls.{Call}
+use Rattle.unftp_control_login.specs.HandlerCalls.{HandlerCall}
 use Rattle.unftp_control_login.specs.Gate.{Gated, gated_law, nobody, questions}
 
 -- A gate, and all that its accounts were asked, in order.
 pub record AskedGate (S : Type 0) : Type 0 where
   pub gate : Gated S
-  pub asked : List Call
+  pub asked : List HandlerCall
 
 -- The law of a gate. At each event its accounts are asked what `questions` says, and at a reply
 -- that follows they are asked nothing.
@@ -28,11 +28,11 @@ asked_law law = record {
 
 -- all that the accounts are asked at these events, and in the run over an input: whether each
 -- password that comes after a name is that of the name
-abbrev pub all_questions : {S : Type 0} → SessionLaw S → Gated S → List FtpEvent → List Call
+abbrev pub all_questions : {S : Type 0} → SessionLaw S → Gated S → List FtpEvent → List HandlerCall
 all_questions law s events =
     flat_map (λ asked. asked) (at_each (λ s event. questions s.stage event) (gated_law law) s events)
 
-abbrev pub questions_for : {S : Type 0} → Option ℕ → SessionLaw S → Gated S → Bytes → List Call
+abbrev pub questions_for : {S : Type 0} → Option ℕ → SessionLaw S → Gated S → Bytes → List HandlerCall
 questions_for limit law s input = all_questions law s (run_for limit (gated_law law) s input)
 
 -- a gate before the first event

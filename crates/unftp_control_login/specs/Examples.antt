@@ -8,7 +8,7 @@ use Rattle.unftp_control_defs.specs.Run.{SessionLaw, as_session}
 use Rattle.unftp_control_login.specs.declared.stage.Progress.{Progress}
 use Rattle.unftp_control_login.specs.declared.stage.Stage.{Stage}
 use Rattle.unftp_control_login.specs.Login.{Accounts}
-use Rattle.unftp_control_login.specs.HandlerCalls.{Call, CallState}
+use Rattle.unftp_control_login.specs.HandlerCalls.{HandlerCall, CallState}
 use Rattle.unftp_control_login.specs.Gate.{Gated}
 use Rattle.unftp_control_login.specs.Asked.{AskedGate}
 use Rattle.unftp_control_login.specs.declared.inner.Inner.{Inner}
@@ -51,15 +51,15 @@ abbrev pub here : FtpReply
 here = CodeAndMsg 257 (codes "here")
 
 -- calls that were made, how often memory was refused, and how often the handler failed
-abbrev pub so_far : List Call → ℕ → ℕ → CallState
+abbrev pub so_far : List HandlerCall → ℕ → ℕ → CallState
 so_far calls refused failed = record { calls = calls; refused = refused; failed = failed }
 
 -- the same of a handler of which only its failures are kept
-abbrev pub inner_with : List Call → ℕ → ℕ → Inner ℕ
+abbrev pub inner_with : List HandlerCall → ℕ → ℕ → Inner ℕ
 inner_with calls refused failed = record { handler = failed; calls = calls; refused = refused }
 
 -- a gate whose accounts were asked this
-abbrev pub gate_asked : {S : Type 0} → List Call → Gated S → AskedGate S
+abbrev pub gate_asked : {S : Type 0} → List HandlerCall → Gated S → AskedGate S
 gate_asked asked gate = record { gate = gate; asked = asked }
 
 -- counts the events that it receives, and is done after nine

@@ -13,7 +13,7 @@ use Rattle.unftp_control_login.specs.declared.stage.Role.{Role}
 use Rattle.unftp_control_login.specs.declared.stage.Stage.{Stage}
 use Rattle.unftp_control_login.specs.Login.{Accounts, after_answer, login_after, login_step, role_in}
 use Rattle.unftp_control_login.specs.LoginLimit.{is_last, is_used_up, one_fewer, too_many}
-use Rattle.unftp_control_login.specs.HandlerCalls.{Asks, AsksFurther, Call, FailsIn, Passes, Plan, makes, tells}
+use Rattle.unftp_control_login.specs.HandlerCalls.{Asks, AsksFurther, HandlerCall, FailsIn, Passes, Plan, makes, tells}
 
 -- its replies (RFC 959, section 5.4)
 abbrev pub password_needed : FtpReply
@@ -81,13 +81,13 @@ stage_after_all accepts stage (event ∷ events) =
 -- What the gate does with an event: it answers it itself, by which a login may be refused; it logs
 -- this name in, of which the handler learns by USER; or it passes the event on, and all replies to
 -- it are the handler's.
-pub data Decision : Type 0 where
-  Answers : FtpReply → Decision
-  Refuses : FtpReply → Decision
-  LogsIn : Bytes → Decision
-  PassesOn : FtpEvent → Decision
+pub data GateDecision : Type 0 where
+  Answers : FtpReply → GateDecision
+  Refuses : FtpReply → GateDecision
+  LogsIn : Bytes → GateDecision
+  PassesOn : FtpEvent → GateDecision
 
-abbrev pub decision_at : LoginStep → Accounts → Bytes → FtpEvent → Decision
+abbrev pub decision_at : LoginStep → Accounts → Bytes → FtpEvent → GateDecision
 decision_at PassOn accepts name event = PassesOn event
 decision_at NeedPassword accepts name event = Answers password_needed
 decision_at AskAccounts accepts name event =
@@ -95,7 +95,7 @@ decision_at AskAccounts accepts name event =
 decision_at NeedName accepts name event = Refuses name_needed
 decision_at NeedLogin accepts name event = Answers login_needed
 
-abbrev pub decided : Accounts → Stage → FtpEvent → Decision
+abbrev pub decided : Accounts → Stage → FtpEvent → GateDecision
 decided accepts stage event =
     decision_at (login_step stage.progress (role_in event)) accepts stage.name event
 
@@ -105,37 +105,37 @@ passes_on PassOn = true
 passes_on step = false
 
 -- A login that is refused is one that fails. The last that may has another answer.
-abbrev pub is_refusal : Decision → Bool
+abbrev pub is_refusal : GateDecision → Bool
 is_refusal (Refuses reply) = true
 is_refusal decision = false
 
-abbrev pub limited : Option ℕ → Decision → Decision
+abbrev pub limited : Option ℕ → GateDecision → GateDecision
 limited left decision = if is_refusal decision && is_last left then Refuses too_many else decision
 
-abbrev pub attempts_after : Option ℕ → Decision → Option ℕ
+abbrev pub attempts_after : Option ℕ → GateDecision → Option ℕ
 attempts_after left decision = if is_refusal decision then one_fewer left else left
 
-abbrev pub is_passed : Decision → Bool
+abbrev pub is_passed : GateDecision → Bool
 is_passed (PassesOn event) = true
 is_passed decision = false
 
 -- What follows from a decision, where the handler is in this state.
 module _ {S : Type 0} (law : SessionLaw S) (s : S) where
-  abbrev pub reply_by : Decision → FtpReply
+  abbrev pub reply_by : GateDecision → FtpReply
   reply_by (Answers reply) = reply
   reply_by (Refuses reply) = reply
   reply_by (LogsIn name) = logged_in
   reply_by (PassesOn event) = law.says s event
 
   -- The handler's state after it: its replies to USER are dropped.
-  abbrev pub state_by : Decision → S
+  abbrev pub state_by : GateDecision → S
   state_by (Answers reply) = s
   state_by (Refuses reply) = s
   state_by (LogsIn name) = after law s (Command (User name))
   state_by (PassesOn event) = law.next s event
 
   -- what is called for the first reply
-  abbrev pub calls_by : Decision → Plan S
+  abbrev pub calls_by : GateDecision → Plan S
   calls_by (Answers reply) = makes s (Some reply)
   calls_by (Refuses reply) = makes s (Some reply)
   calls_by (LogsIn name) =
@@ -144,16 +144,16 @@ module _ {S : Type 0} (law : SessionLaw S) (s : S) where
   calls_by (PassesOn event) = (Passes event, s) ∷ []
 
   -- and for all of them
-  abbrev pub all_calls_by : Decision → Plan S
+  abbrev pub all_calls_by : GateDecision → Plan S
   all_calls_by (PassesOn event) = tells law s event
   all_calls_by decision = calls_by decision
 
 -- What the accounts are asked: whether a password that comes after a name is that of the name.
-abbrev pub asked_at : LoginStep → Bytes → FtpEvent → List Call
+abbrev pub asked_at : LoginStep → Bytes → FtpEvent → List HandlerCall
 asked_at AskAccounts name event = Asks name (password_in event) ∷ []
 asked_at step name event = []
 
-abbrev pub questions : Stage → FtpEvent → List Call
+abbrev pub questions : Stage → FtpEvent → List HandlerCall
 questions stage event = asked_at (login_step stage.progress (role_in event)) stage.name event
 
 -- The accounts, which stay; how many more logins may fail, if they are limited; how far the login
@@ -167,7 +167,7 @@ pub record Gated (S : Type 0) : Type 0 where
   pub passed : Bool
   pub inner : S
 
-abbrev pub decides : {S : Type 0} → Gated S → FtpEvent → Decision
+abbrev pub decides : {S : Type 0} → Gated S → FtpEvent → GateDecision
 decides s event = limited s.left (decided s.accepts s.stage event)
 
 -- the handler's replies are the gate's, of which nothing else changes

@@ -11,7 +11,7 @@ use Rattle.unftp_control_serve.specs.declared.output.Output.{Output}
 use Rattle.unftp_control_login.specs.Login.{Accounts}
 use Rattle.unftp_control_login.specs.HandlerCalls.{CallsMade}
 use Rattle.unftp_control_login.specs.CallsOf.{calls_of, failures_of}
-use Rattle.unftp_control_login.specs.Gate.{Decision, Gated, calls_by, decides, further_calls, reply_by, state_by}
+use Rattle.unftp_control_login.specs.Gate.{GateDecision, Gated, calls_by, decides, further_calls, reply_by, state_by}
 use Rattle.unftp_control_login.specs.Asked.{AskedGate}
 use Rattle.unftp_control_login.specs.declared.inner.Inner.{Inner}
 use Rattle.unftp_control_login.specs.declared.gate.Gate.{Gate}
@@ -54,7 +54,7 @@ GateAsked failures law s before after =
 
 -- What follows from a decision: a reply, the handler's next state, and calls.
 pub record Decided {H S : Type 0} (state : H → S) (failures : H → ℕ) (law : SessionLaw S)
-    (before after : Inner H) (decision : Decision) (result : Result Reply ControlChanError)
+    (before after : Inner H) (decision : GateDecision) (result : Result Reply ControlChanError)
     : Type 0 where
   pub says : IfOk result (λ reply. reply_of reply ≡ reply_by law (state before.handler) decision)
   pub next : OnOk result (state after.handler ≡ state_by law (state before.handler) decision)

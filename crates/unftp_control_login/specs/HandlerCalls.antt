@@ -11,18 +11,18 @@ use Rattle.unftp_control_message.specs.declared.reply.error.ControlChanError.{Co
 -- The accounts are asked whether the second, a password, is that of the first, a name; the handler
 -- receives an event; it is asked for the next of the replies that follow; memory is asked for a
 -- reply.
-pub data Call : Type 0 where
-  Asks : Bytes → Bytes → Call
-  Passes : FtpEvent → Call
-  AsksFurther : Call
-  Makes : FtpReply → Call
+pub data HandlerCall : Type 0 where
+  Asks : Bytes → Bytes → HandlerCall
+  Passes : FtpEvent → HandlerCall
+  AsksFurther : HandlerCall
+  Makes : FtpReply → HandlerCall
 
 -- Calls that are to be made one after the other, each with the state of the handler in which it may
 -- fail. A call for memory may fail in any.
 abbrev pub Plan : Type 0 → Type 0
-Plan S = List (Call × S)
+Plan S = List (HandlerCall × S)
 
-abbrev pub calls_in : {S : Type 0} → Plan S → List Call
+abbrev pub calls_in : {S : Type 0} → Plan S → List HandlerCall
 calls_in plan = map (λ planned. planned.0) plan
 
 -- The handler is asked for the first of these replies that follow, and after each of them once
@@ -41,7 +41,7 @@ makes s (Some reply) = (Makes reply, s) ∷ []
 
 -- with which faults a call may fail: that of the handler as its law says, and that of the accounts
 -- with none
-abbrev pub MayFailAt : {S : Type 0} → SessionLaw S → S → Call → Fault → Type 0
+abbrev pub MayFailAt : {S : Type 0} → SessionLaw S → S → HandlerCall → Fault → Type 0
 MayFailAt law s (Asks name password) fault = ⊥
 MayFailAt law s (Passes event) fault = law.may_fail s event fault
 MayFailAt law s AsksFurther fault = law.may_break s fault
@@ -54,15 +54,15 @@ FailsIn law ((call, s) ∷ plan) fault = MayFailAt law s call fault ⊎ FailsIn 
 
 -- The calls so far, how often memory was refused, and how often the handler has failed.
 pub record CallState : Type 0 where
-  pub calls : List Call
+  pub calls : List HandlerCall
   pub refused : ℕ
   pub failed : ℕ
 
 -- after one more call, and where it failed
-abbrev pub called : Call → CallState → CallState
+abbrev pub called : HandlerCall → CallState → CallState
 called call state = record state { calls = state.calls ++ call ∷ [] }
 
-abbrev pub failed_at : Call → CallState → CallState
+abbrev pub failed_at : HandlerCall → CallState → CallState
 failed_at (Makes reply) state = record state { refused = state.refused + 1 }
 failed_at call state = record state { failed = state.failed + 1 }
 

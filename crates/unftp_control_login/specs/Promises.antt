@@ -14,7 +14,7 @@ use Rattle.unftp_control_defs.specs.Turns.{IsExchange, cut_reads}
 use Rattle.unftp_control_serve.specs.Endings.{Snapshot, RunFailed}
 use Rattle.unftp_control_serve.specs.declared.error.ServeError.{ServeError}
 use Rattle.unftp_control_login.specs.Login.{Accounts, GaveName, IsLoggedIn, needs_login}
-use Rattle.unftp_control_login.specs.HandlerCalls.{Call, calls_in}
+use Rattle.unftp_control_login.specs.HandlerCalls.{HandlerCall, calls_in}
 use Rattle.unftp_control_login.specs.Gate.{Gated, all_calls_by, closed, decides, gated_law, login_needed}
 use Rattle.unftp_control_login.specs.LoginLimit.{is_pass}
 
@@ -127,7 +127,7 @@ FailsAlike {S = S} limit law s input other =
     → (others : List FtpEvent) × RunFailed limit law before other after error others
 
 -- what a gate calls at an event, beside the accounts
-abbrev pub gate_calls : {S : Type 0} → SessionLaw S → Gated S → FtpEvent → List Call
+abbrev pub gate_calls : {S : Type 0} → SessionLaw S → Gated S → FtpEvent → List HandlerCall
 gate_calls law s event = calls_in (all_calls_by law s.inner (decides s event))
 
 -- a gate before the first event, of which so many logins may fail, if they are limited
@@ -135,8 +135,8 @@ abbrev pub guarded : {S : Type 0} → Option ℕ → Accounts → S → Gated S
 guarded failures accepts inner = record (closed accepts inner) { left = failures }
 
 -- what is called in the run over an input, event for event
-abbrev pub calls_for : {S : Type 0} → Option ℕ → (S → FtpEvent → List Call) → SessionLaw S → S
-    → Bytes → List (List Call)
+abbrev pub calls_for : {S : Type 0} → Option ℕ → (S → FtpEvent → List HandlerCall) → SessionLaw S → S
+    → Bytes → List (List HandlerCall)
 calls_for limit calls law s input = at_each calls law s (run_for limit law s input)
 
 -- the line is within the limit
@@ -169,7 +169,7 @@ module _ {S : Type 0} (limit : Option ℕ) (accepts : Accounts) (law : SessionLa
       → text_for limit law s input ≡ text_for limit law s other
 
   -- and make the same calls,
-  abbrev pub CallsHidePasswords : (S → FtpEvent → List Call) → Type 0
+  abbrev pub CallsHidePasswords : (S → FtpEvent → List HandlerCall) → Type 0
   CallsHidePasswords calls = (input other : Bytes)
       → AllLookAlike accepts accepts (events limit input) (events limit other)
       → calls_for limit calls law s input ≡ calls_for limit calls law s other
@@ -199,7 +199,7 @@ module _ {S : Type 0} (limit : Option ℕ) (accepts : Accounts) (law : SessionLa
 -- An input about which both accounts answer alike has one output, and makes the same calls: from a
 -- state with the first, and from one with the second.
 abbrev pub AccountsStayHidden : {S : Type 0} → Option ℕ → Accounts → Accounts
-    → (S → FtpEvent → List Call) → SessionLaw S → S → S → Type 0
+    → (S → FtpEvent → List HandlerCall) → SessionLaw S → S → S → Type 0
 AccountsStayHidden limit accepts other calls law s t = (input : Bytes)
     → AgreeOnAll accepts other (events limit input)
     → (text_for limit law s input ≡ text_for limit law t input)

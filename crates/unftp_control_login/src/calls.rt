@@ -1,6 +1,6 @@
 //! Calls that were made: a list that only contracts see.
 ghost use Rattle.std.specs.Prelude.{◌≡◌, ◌++◌, ◌∷◌, [], List};
-ghost use Rattle.unftp_control_login.specs.HandlerCalls.{Call};
+ghost use Rattle.unftp_control_login.specs.HandlerCalls.{HandlerCall};
 ghost use Rattle.unftp_control_login.specs.CallMeaning.{call_of};
 
 use std::marker::Model;
@@ -28,15 +28,15 @@ pub(crate) enum Note<'a> {
 #[derive(Drop)]
 pub(crate) struct Calls {
     seal: (),
-    ghost calls: { List Call },
+    ghost calls: { List HandlerCall },
 }
 
 impl Model for Calls {
     ghost use Rattle.std.specs.Prelude.{List};
-    ghost use Rattle.unftp_control_login.specs.HandlerCalls.{Call};
+    ghost use Rattle.unftp_control_login.specs.HandlerCalls.{HandlerCall};
     ghost use base.Fml.{ftrue};
 
-    ghost Value = { List Call };
+    ghost Value = { List HandlerCall };
 
     ghost view = { λ calls. calls.calls };
 

@@ -8,7 +8,7 @@ ghost use Rattle.unftp_control_defs.specs.Run.{after, last_state, replies_to, ru
 ghost use Rattle.unftp_control_login.specs.Login.{Accounts, GaveName, IsLoggedIn, is_login, needs_login};
 ghost use Rattle.unftp_control_login.specs.Asked.{asked_law, questions_for};
 ghost use Rattle.unftp_control_login.specs.Gate.{Gated, gated_law, unlimited};
-ghost use Rattle.unftp_control_login.specs.HandlerCalls.{Call};
+ghost use Rattle.unftp_control_login.specs.HandlerCalls.{HandlerCall};
 ghost use Rattle.unftp_control_login.specs.LoginLimit.{EndsWith, failed_in_run, is_failed_login, too_many};
 ghost use Rattle.unftp_control_login.specs.Promises.{AccountsStayHidden, CallsHidePasswords, ErrorsHidePasswords, IsTurnedAway, LearnsName, MembersAlone, PasswordsStayHidden, ReachesHandler, RefusedLoginsLookAlike, RefusedPasswordsLookAlike, SendsPlainExchanges, ServesMembersAlone, gate_calls, guarded};
 
@@ -43,7 +43,7 @@ pub fn members_reach_the_handler<H: Session>()
 /// Over an input the accounts of a gate are asked about each password that comes after a name, once
 /// and in order, and nothing else. Those before it stay.
 pub fn accounts_are_asked_once<H: Session>()
-    ensures { (heard : List H.Heard) (limit : Option ℕ) (asked : List Call)
+    ensures { (heard : List H.Heard) (limit : Option ℕ) (asked : List HandlerCall)
         (gate : Gated H.State) (input : Bytes) → (last_state (asked_law (H.law heard))
         (record { gate = gate; asked = asked }) (run_for limit (asked_law (H.law heard))
         (record { gate = gate; asked = asked }) input)).asked

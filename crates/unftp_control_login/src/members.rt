@@ -2,10 +2,10 @@
 ghost use Rattle.std.specs.Prelude.{◌≤◌, ◌+◌, IfErr, IfOk, OnOk, Some};
 ghost use Rattle.unftp_control_defs.specs.Bytes.{Bytes};
 ghost use Rattle.unftp_control_defs.specs.Input.{HasRead, input_state_of};
-ghost use Rattle.unftp_control_serve.specs.Service.{ServeEnded, Serves};
+ghost use Rattle.unftp_control_serve.specs.Service.{AreReadBack, ServeEnded, Serves};
 ghost use Rattle.unftp_control_serve.specs.Writing.{HasWritten, output_state_of};
 ghost use Rattle.unftp_control_login.specs.Asked.{IsClosed, asked_law};
-ghost use Rattle.unftp_control_login.specs.GateState.{gate_snapshot, gated};
+ghost use Rattle.unftp_control_login.specs.GateState.{asked_gate, gate_snapshot, gated};
 ghost use Rattle.unftp_control_login.specs.Promises.{MembersAlone, SendsPlainExchanges};
 
 use crate::accounts::Accounts;
@@ -39,6 +39,11 @@ pub fn serve_members<R: Read, W: Write, A: Accounts, H: Session>(
         (asked_law (H.law (H.heard gate.new.inner.handler)))
         (gate_snapshot A.accepts H.state H.failures W.contents gate.old writer.old)
         (gate_snapshot A.accepts H.state H.failures W.contents gate.new writer.new)
+        (input_state_of R.remaining reader.old) (input_state_of R.remaining reader.new)) }
+    // a client reads these replies, and nothing else, where each of them is plain
+    ensures read_back { OnOk result (AreReadBack (Some line_limit)
+        (asked_law (H.law (H.heard gate.new.inner.handler)))
+        (asked_gate A.accepts H.state gate.old)
         (input_state_of R.remaining reader.old) (input_state_of R.remaining reader.new)) }
     // to what needs a login, a reply that reports no failure comes only after one
     ensures members { IsClosed (gated A.accepts H.state gate.old)

@@ -24,7 +24,7 @@ use Rattle.unftp_control_client.specs.ForwardingSteps.{IsGreeted}
 use Rattle.unftp_control_client.specs.declared.dialogue.Dialogue.{Dialogue}
 use Rattle.unftp_control_client.proofs.ClientStepLemmas.{answered-after_final, answered_after, sent-after_final}
 use Rattle.unftp_control_proxy.specs.ProxyAnswers.{IsReplyOf}
-use Rattle.unftp_control_proxy.specs.ProxyCalls.{AnsweredBy, Fate, GivesAnswer, IsDecidable, IsLookedFor, IsWholeReply, PassesReply, ProxyState, ReplyBytes, SentAs, TakesReplyBytes, after_fate, greeting_owed, server_owes, waits, with_settled}
+use Rattle.unftp_control_proxy.specs.ProxyCalls.{AnsweredBy, Fate, GivesAnswer, IsDecidable, IsScannedFor, IsWholeReply, PassesReply, ProxyState, ReplyBytes, SentAs, TakesReplyBytes, after_fate, greeting_owed, server_owes, waits, with_settled}
 use Rattle.unftp_control_proxy.specs.Traffic.{IsSingle, IsTraffic, held_fate, no_traffic, one_answer, one_line, one_reply}
 use Rattle.unftp_control_proxy.proofs.AnswerLemmas.{read_is_final}
 
@@ -53,7 +53,7 @@ module _ (before later : ProxyState) (dialogue : later.dialogue ≡ before.dialo
     line_limit = line_limit;
   }
 
-pub found_only : (before later : ProxyState) → IsLookedFor before later
+pub found_only : (before later : ProxyState) → IsScannedFor before later
     → IsTraffic before no_traffic later
 found_only before later is = pieces before later
     (ap (λ (p : ProxyState). p.dialogue) is.same) (ap (λ (p : ProxyState). p.answer) is.same)

@@ -9,7 +9,7 @@ use Rattle.unftp_control_defs.specs.Lines.{IsLine}
 use Rattle.unftp_control_defs.specs.Outcome.{outcome}
 use Rattle.unftp_control_defs.specs.ReplyReader.{FrontReply}
 use Rattle.unftp_control_defs.specs.Room.{LacksRoom}
-use Rattle.unftp_control_read.specs.ReplyDecoding.{BeginsWith, FindsFirst, PendingReplies, no_bytes as no_reply_bytes, settled as settled_replies}
+use Rattle.unftp_control_read.specs.ReplyDecoding.{BeginsWithReply, FindsFirst, PendingReplies, no_bytes as no_reply_bytes, settled as settled_replies}
 use Rattle.unftp_control_read.specs.declared.decoder.FirstReply.{FirstReply}
 use Rattle.unftp_control_read.specs.declared.errors.NextReplyError.{NextReplyError}
 use Rattle.unftp_control_read.specs.declared.errors.NextReplyError.TheVariants as next
@@ -77,7 +77,7 @@ waits proxy = nat_le proxy.limits.waiting (server_owes proxy.dialogue)
 
 -- The client's first line may have been looked for, and nothing else has changed. No byte is
 -- scanned twice.
-pub record IsLookedFor (before later : ProxyState) : Type 0 where
+pub record IsScannedFor (before later : ProxyState) : Type 0 where
   pub same : later ≡ record before { client = later.client }
   pub bytes : later.client.bytes ≡ before.client.bytes
   pub limit : later.client.limit ≡ before.client.limit
@@ -233,7 +233,7 @@ pub record GivesAnswer (before : ProxyState) (reply : FtpReply) (later : ProxySt
 pub record IsUnasked (proxy : ProxyState) (code : ℕ) : Type 0 where
   pub none_due : is_due proxy ≡ false
   pub none_owed : owes_reply proxy.dialogue ≡ false
-  pub begins : (used : ℕ) × BeginsWith proxy.server.limit proxy.server.bytes code used
+  pub begins : (used : ℕ) × BeginsWithReply proxy.server.limit proxy.server.bytes code used
 
 -- The replies that were given have left the buffer.
 abbrev pub with_settled : ProxyState → ProxyState
@@ -260,7 +260,7 @@ GivesNext before (Some (given.Unasked code)) out out' later =
 -- the server's first reply is owed: its code, and how many bytes it has
 abbrev pub IsOwedFirst : ProxyState → ℕ → ℕ → Type 0
 IsOwedFirst proxy code used = (owes_reply proxy.dialogue ≡ true)
-    × BeginsWith proxy.server.limit proxy.server.bytes code used
+    × BeginsWithReply proxy.server.limit proxy.server.bytes code used
 
 -- the bytes lack room for the answer that is due, or for the reply that is owed next
 pub record LacksRoomForAnswer (proxy : ProxyState) (out : Vec ℕ) : Type 0 where
@@ -302,7 +302,7 @@ HasNoFirstReply proxy = (found : Result (Option FirstReply) NextReplyError)
 abbrev pub IsReplaceError : ProxyState → Bytes → Vec ℕ → ReplaceError → Type 0
 IsReplaceError proxy other out replace.NoReply = HasNoFirstReply proxy
 IsReplaceError proxy other out replace.NotOwed = (owes_reply proxy.dialogue ≡ false)
-    × ((code : ℕ) × (used : ℕ) × BeginsWith proxy.server.limit proxy.server.bytes code used)
+    × ((code : ℕ) × (used : ℕ) × BeginsWithReply proxy.server.limit proxy.server.bytes code used)
 IsReplaceError proxy other out replace.AnotherReply = (code : ℕ) × (used : ℕ)
     × IsOwedFirst proxy code used × ¬ IsReplyOf code other
 IsReplaceError proxy other out replace.OutOfMemory = (code : ℕ) × (used : ℕ)

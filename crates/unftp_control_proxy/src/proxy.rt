@@ -9,7 +9,7 @@ ghost use Rattle.unftp_control_client.specs.Dialogue.{after_reply, owes_reply};
 ghost use Rattle.unftp_control_proxy.specs.ProxyAnswers.{IsReplyOf, answer_reply, is_answer};
 ghost use Rattle.unftp_control_serve.specs.ClientLines.{first_client_line};
 ghost use Rattle.unftp_control_serve.specs.Decoder.{found_as, kept_bytes, line_in, pushed, without_line};
-ghost use Rattle.unftp_control_proxy.specs.ProxyCalls.{AnsweredBy, BeginsTls, GivesNext, GivesOther, IsAnswerError, IsAppendedError, IsCheckError, IsDecidable, IsForwardingError, IsFull, IsNextError, IsReplaceError, IsSendError, IsUnclearError, MayBeSent, SentAs, after_fate, is_due, new_proxy, send_error, server_owes, waits, IsLookedFor};
+ghost use Rattle.unftp_control_proxy.specs.ProxyCalls.{AnsweredBy, BeginsTls, GivesNext, GivesOther, IsAnswerError, IsAppendedError, IsCheckError, IsDecidable, IsForwardingError, IsFull, IsNextError, IsReplaceError, IsSendError, IsUnclearError, MayBeSent, SentAs, after_fate, is_due, new_proxy, send_error, server_owes, waits, IsScannedFor};
 
 use crate::answer::Answer;
 use crate::errors::{ReplaceError, SendError};
@@ -162,7 +162,7 @@ impl Proxy {
         ensures next { result
             ≡ first_client_line self.old.client.limit (lines_of self.old.client.bytes) }
         ensures client { self.new.client ≡ found_as self.old.client result self.new.client.scanned }
-        ensures same { IsLookedFor self.old self.new }
+        ensures same { IsScannedFor self.old self.new }
     {
         self.client.find_line()
     }

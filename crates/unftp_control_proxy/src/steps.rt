@@ -12,7 +12,7 @@ ghost use Rattle.unftp_control_client.specs.Dialogue.{next_to};
 ghost use Rattle.unftp_control_proxy.specs.ProxyAnswers.{is_answer};
 ghost use Rattle.unftp_control_serve.specs.ClientLines.{front_line};
 ghost use Rattle.unftp_control_serve.specs.Decoder.{line_in, pushed};
-ghost use Rattle.unftp_control_proxy.specs.ProxyCalls.{AnsweredBy, GivesAnswer, IsDecidable, IsLookedFor, PassesReply, ProxyState, ReplyBytes, SentAs, after_fate, with_settled};
+ghost use Rattle.unftp_control_proxy.specs.ProxyCalls.{AnsweredBy, GivesAnswer, IsDecidable, IsScannedFor, PassesReply, ProxyState, ReplyBytes, SentAs, after_fate, with_settled};
 ghost use Rattle.unftp_control_proxy.specs.Traffic.{IsTraffic, client_piece, no_traffic, one_answer, one_line, one_reply, server_piece};
 
 /// What the contract of each call ensures says what passes in it; so with `traffic_is_joined` the
@@ -24,7 +24,7 @@ pub fn calls_are_traffic()
     ensures from_server { (before later : ProxyState) (piece : Bytes)
         → later ≡ record before { server = pushed_reply before.server piece }
         → IsTraffic before (server_piece piece) later }
-    ensures next_line { (before later : ProxyState) → IsLookedFor before later
+    ensures next_line { (before later : ProxyState) → IsScannedFor before later
         → IsTraffic before no_traffic later }
     ensures none_given { (before later : ProxyState) → later ≡ with_settled before
         → IsTraffic before no_traffic later }

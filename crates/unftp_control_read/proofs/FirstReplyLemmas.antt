@@ -5,26 +5,26 @@ use Rattle.unftp_control_defs.specs.ReplyReader.{HasFront, IsMalformed}
 use Rattle.unftp_control_defs.specs.ReplyLimit.{IsTooLongReply, within_limit}
 use Rattle.unftp_control_defs.proofs.ReplyLemmas.{FrontReply-unique, front_is_formed}
 use Rattle.unftp_control_defs.proofs.ReplyLimitLemmas.{FrontReply-within, IsMalformed-within}
-use Rattle.unftp_control_read.specs.ReplyDecoding.{BeginsWith, FindsFirst, IsShortPart}
+use Rattle.unftp_control_read.specs.ReplyDecoding.{BeginsWithReply, FindsFirst, IsShortPart}
 use Rattle.unftp_control_read.specs.declared.decoder.FirstReply.{FirstReply}
 use Rattle.unftp_control_read.specs.declared.errors.NextReplyError.{NextReplyError}
 use Rattle.unftp_control_read.specs.declared.errors.NextReplyError.TheVariants.{Malformed, TooLong, OutOfMemory}
 use Rattle.unftp_control_read.proofs.DecoderLemmas.{long_is_part, short_is_not_long}
 
 module _ (limit : Option ℕ) (bytes : Bytes) where
-  front : {code used : ℕ} → BeginsWith limit bytes code used → HasFront (within_limit limit bytes)
+  front : {code used : ℕ} → BeginsWithReply limit bytes code used → HasFront (within_limit limit bytes)
   front {code} {used} begins =
       (code, begins.lines, used, (FrontReply-within limit bytes).1 (begins.front, begins.within))
 
-  some_is_no_part : {code used : ℕ} → BeginsWith limit bytes code used → ¬ IsShortPart limit bytes
+  some_is_no_part : {code used : ℕ} → BeginsWithReply limit bytes code used → ¬ IsShortPart limit bytes
   some_is_no_part {code} {used} begins part =
       part.0.0 (code, begins.lines, used, begins.front)
 
-  some_is_formed : {code used : ℕ} → BeginsWith limit bytes code used
+  some_is_formed : {code used : ℕ} → BeginsWithReply limit bytes code used
       → ¬ IsMalformed (within_limit limit bytes)
   some_is_formed begins bad = front_is_formed (within_limit limit bytes) (front begins) bad
 
-  some_is_not_long : {code used : ℕ} → BeginsWith limit bytes code used
+  some_is_not_long : {code used : ℕ} → BeginsWithReply limit bytes code used
       → ¬ IsTooLongReply limit bytes
   some_is_not_long begins long = (long_is_part limit bytes long).0 (front begins)
 

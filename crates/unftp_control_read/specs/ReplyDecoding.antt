@@ -93,7 +93,7 @@ pub record TakesFirst (before : PendingReplies) (reply : ℕ × List Bytes)
   pub within : IfSome before.limit (λ limit. takes.used ≤ limit)
 
 -- The bytes begin with this reply, which has this code and so many bytes, and is not too long.
-pub record BeginsWith (limit : Option ℕ) (bytes : Bytes) (code used : ℕ) : Type 0 where
+pub record BeginsWithReply (limit : Option ℕ) (bytes : Bytes) (code used : ℕ) : Type 0 where
   pub lines : List Bytes
   pub front : FrontReply bytes code lines used
   pub within : IfSome limit (λ limit. used ≤ limit)
@@ -101,7 +101,7 @@ pub record BeginsWith (limit : Option ℕ) (bytes : Bytes) (code used : ℕ) : T
 -- The first reply is found where it is; or there is only a part of one; or an error.
 abbrev pub FindsFirst : Option ℕ → Bytes → Result (Option FirstReply) NextReplyError → Type 0
 FindsFirst limit bytes (Ok None) = IsShortPart limit bytes
-FindsFirst limit bytes (Ok (Some reply)) = BeginsWith limit bytes reply.code reply.length
+FindsFirst limit bytes (Ok (Some reply)) = BeginsWithReply limit bytes reply.code reply.length
 FindsFirst limit bytes (Err Malformed) = IsMalformed (within_limit limit bytes)
 FindsFirst limit bytes (Err TooLong) = IsTooLongReply limit bytes
 FindsFirst limit bytes (Err OutOfMemory) = ⊥

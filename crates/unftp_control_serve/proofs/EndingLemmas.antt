@@ -12,7 +12,7 @@ use Rattle.unftp_control_message.specs.ErrorParts.{KindAndSource}
 use Rattle.unftp_control_message.specs.ErrorMeaning.{fault_of}
 use Rattle.unftp_control_serve.specs.Decoder.{FirstMayRunOut}
 use Rattle.unftp_control_serve.specs.Writing.{CutShort, ReplyFailed, IsSent}
-use Rattle.unftp_control_serve.specs.Endings.{Snapshot, Cause, Finished, Write, Handler, LineMemory, ReplyMemory, IsCauseOf, EndsAt, AllAnswered, EventFailed, HasAnswered, RunAnswered, RunEnded, RunFailed, handler_failures, part_written, text_until, whole_text, write_failures}
+use Rattle.unftp_control_serve.specs.Endings.{Snapshot, Cause, Finished, Write, Handler, LineMemory, ReplyMemory, IsCauseOf, EndsAt, RunFinished, EventFailed, HasAnswered, RunAnswered, RunEnded, RunFailed, handler_failures, part_written, text_until, whole_text, write_failures}
 use Rattle.unftp_control_serve.specs.declared.error.ServeError.{ServeError}
 use Rattle.unftp_control_serve.specs.declared.error.ServeError.TheVariants as error
 use Rattle.unftp_control_serve.proofs.SendLemmas.{HasWritten-nothing, HasWritten-then, IsFlushed-then}
@@ -61,11 +61,11 @@ module _ {S : Type 0} where
         subst (λ text. HasAnswered text cause m k) (append-nil text) (HasAnswered-then [] later)
 
 module _ {S : Type 0} (law : SessionLaw S) where
-  pub AllAnswered-nothing : (m : Snapshot S) → AllAnswered law m [] m
-  AllAnswered-nothing m = record { ends_at = refl; given = HasAnswered-nothing m }
+  pub RunFinished-nothing : (m : Snapshot S) → RunFinished law m [] m
+  RunFinished-nothing m = record { ends_at = refl; given = HasAnswered-nothing m }
 
   -- after events that were all answered
-  module _ {m n : Snapshot S} {es : List FtpEvent} (all : AllAnswered law m es n) where
+  module _ {m n : Snapshot S} {es : List FtpEvent} (all : RunFinished law m es n) where
     last-then : (fs : List FtpEvent) → last_state law m.state (es ++ fs) ≡ last_state law n.state fs
     last-then fs = last_state-append law m.state es fs
         ∙ ap (λ s. last_state law s fs) (sym all.ends_at)
@@ -230,7 +230,7 @@ module _ {S : Type 0} (law : SessionLaw S) where
         ends (step ∷ steps) some split may = ((law.more n.state, split), may)
 
     pub InTurn-end : law.more n.state ≡ [] → k.state ≡ n.state → k.output ≡ n.output
-        → k.failures ≡ n.failures → AllAnswered law m (e ∷ []) k
+        → k.failures ≡ n.failures → RunFinished law m (e ∷ []) k
     InTurn-end none state same quiet =
         let all : turn law m.state e ≡ sent =
         replying.split ∙ ap (λ more. sent ++ more) none ∙ append-nil sent in
@@ -256,7 +256,7 @@ module _ {S : Type 0} (law : SessionLaw S) where
 pub record GoneOn (limit : Option ℕ) {S : Type 0} (law : SessionLaw S) (m n : Snapshot S)
     (sent : Bytes) : Type 0 where
   pub goes_on : ends_for limit law m.state sent ≡ false
-  pub answered : AllAnswered law m (events limit sent) n
+  pub answered : RunFinished law m (events limit sent) n
 
 module _ {limit : Option ℕ} {S : Type 0} {law : SessionLaw S} {m n : Snapshot S} {sent : Bytes}
     (so_far : GoneOn limit law m n sent) (more : Bytes) where

@@ -7,12 +7,12 @@ use Rattle.unftp_control_defs.specs.Lines.{incomplete_line, lines_of}
 use Rattle.unftp_control_defs.specs.Run.{after, run_for, ends_for, SessionLaw, run_of, ends}
 use Rattle.unftp_control_defs.proofs.LineLemmas.{events-incomplete, incomplete_line-append, line_first}
 use Rattle.unftp_control_defs.proofs.RunLemmas.{line-done, unread-incomplete}
-use Rattle.unftp_control_serve.specs.Endings.{Snapshot, LineMemory, AllAnswered, EventFailed, RunAnswered, RunFailed}
+use Rattle.unftp_control_serve.specs.Endings.{Snapshot, LineMemory, RunFinished, EventFailed, RunAnswered, RunFailed}
 use Rattle.unftp_control_serve.specs.Decoder.{Pending, FindsNoLine, MayRunOut, TakesLine}
 use Rattle.unftp_control_serve.specs.declared.error.ServeError.{ServeError}
 use Rattle.unftp_control_serve.specs.declared.error.ServeError.TheVariants.{OutOfMemory}
 use Rattle.unftp_control_serve.proofs.ClientLineLemmas.{MayRunOut-taken}
-use Rattle.unftp_control_serve.proofs.EndingLemmas.{AllAnswered-nothing, EventFailed-more, GoneOn, GoneOn-answered, GoneOn-failed, GoneOn-then, HasAnswered-silent}
+use Rattle.unftp_control_serve.proofs.EndingLemmas.{RunFinished-nothing, EventFailed-more, GoneOn, GoneOn-answered, GoneOn-failed, GoneOn-then, HasAnswered-silent}
 
 -- in the loop over the lines of some bytes: the first lines were answered, and these are pending
 pub record Halfway {S : Type 0} (law : SessionLaw S) (limit : Option ℕ) (m n : Snapshot S)
@@ -28,7 +28,7 @@ Halfway-start {law = law} {m = m} = record {
   lines = [];
   whole = refl;
   whole_lines = refl;
-  gone_on = record { goes_on = refl; answered = AllAnswered-nothing law m };
+  gone_on = record { goes_on = refl; answered = RunFinished-nothing law m };
 }
 
 module _ {S : Type 0} {law : SessionLaw S} {limit : Option ℕ} {m n : Snapshot S}
@@ -54,8 +54,8 @@ module _ {S : Type 0} {law : SessionLaw S} {limit : Option ℕ} {m n : Snapshot 
 
     pub no_line-answered : RunAnswered limit law m bytes n false q.bytes
     no_line-answered = all-answered so_far (record {
-      answered = subst (λ events. AllAnswered law n (run_of law n.state events) n) (sym no_event)
-          (AllAnswered-nothing law n);
+      answered = subst (λ events. RunFinished law n (run_of law n.state events) n) (sym no_event)
+          (RunFinished-nothing law n);
       ended_is = sym (ap (ends law n.state) no_event);
       left_is = none.same ∙ sym (unread-incomplete law limit n.state p.bytes none.unended);
     })
@@ -83,7 +83,7 @@ module _ {S : Type 0} {law : SessionLaw S} {limit : Option ℕ} {m n : Snapshot 
       next_line = λ at_line. absurd (failed.has_line at_line);
     })
 
-    module _ {k : Snapshot S} (all : AllAnswered law n (event ∷ []) k) where
+    module _ {k : Snapshot S} (all : RunFinished law n (event ∷ []) k) where
       pub Halfway-next : law.done k.state ≡ false → Halfway law limit m k bytes q.bytes
       Halfway-next on =
           let line = first.takes.line in

@@ -5,7 +5,7 @@ use Rattle.std.specs.List.{AllByRecursion, concat}
 use Rattle.std.proofs.lemmas.Bool.{false≢true}
 use Rattle.std.specs.Prelude.{if◌then◌else◌}
 use Rattle.std.specs.Option.{IfSome}
-use Rattle.std.specs.Prelude.{IfOk}
+use Rattle.std.specs.Prelude.{IfOk, OnOk}
 use Rattle.std.specs.Io.KnownBytes.{Appends, Consumes, IsAtEnd}
 use Rattle.unftp_control_defs.specs.Bytes.{Bytes, LF, Lacks}
 use Rattle.unftp_control_defs.specs.Events.{FtpEvent, events}
@@ -15,10 +15,10 @@ use Rattle.unftp_control_defs.specs.Run.{SessionLaw, last_state, replies, text_o
 use Rattle.unftp_control_defs.proofs.EncodingLemmas.{ReadsBack-encoded}
 use Rattle.unftp_control_defs.proofs.LineLemmas.{Lines-lines_of, incomplete_line-append, incomplete_line-incomplete}
 use Rattle.unftp_control_defs.proofs.RunLemmas.{after_end-ended, run-ended, unread-ended}
-use Rattle.unftp_control_serve.specs.Endings.{Snapshot, AllAnswered, RunFailed, NoRoom}
+use Rattle.unftp_control_serve.specs.Endings.{Snapshot, RunFinished, RunFailed, NoRoom}
 use Rattle.unftp_control_serve.specs.Decoder.{kept_length, saturating_u64}
 use Rattle.unftp_control_serve.specs.Engine.{AreScanned, EngineState, IsRunning, after_end_with, bytes_with, ends_with, pending_with, fed, fresh}
-use Rattle.unftp_control_serve.specs.Service.{AnsweredAll, EndedLate, NoRoomForPiece, ReadFailed, ReadTooOften, Reports, ServeEnded, Serves, ServesKnown, most_held}
+use Rattle.unftp_control_serve.specs.Service.{AreReadBack, ServedInPieces, EndedLate, NoRoomForPiece, ReadFailed, ReadTooOften, Reports, ServeEnded, Serves, ServesKnown, most_held}
 use Rattle.unftp_control_serve.specs.declared.service.Served.{Served}
 use Rattle.unftp_control_serve.specs.declared.error.ServeError.{ServeError}
 use Rattle.unftp_control_serve.specs.declared.error.ServeError.TheVariants as error
@@ -110,7 +110,7 @@ module _ {limit : Option ℕ} {S : Type 0} {law : SessionLaw S} {m : Snapshot S}
       were_read_so = WereRead-more s.were_read piece read
 
       -- and whose lines were answered
-      module _ (after : Snapshot S) (all : AllAnswered law n
+      module _ (after : Snapshot S) (all : RunFinished law n
           (run_for engine.limit law n.state (bytes_with engine piece)) after) (scanned : ℕ)
           (are_scanned : AreScanned scanned (engine.scanned + length piece)
           (length (after_end_with engine law n.state piece))) where
@@ -141,7 +141,7 @@ module _ {limit : Option ℕ} {S : Type 0} {law : SessionLaw S} {m : Snapshot S}
 
         -- with which it ended
         pub Serving-done : {served : Served} → Reports served (fed law n.state engine piece scanned)
-            → ends_with engine law n.state piece ≡ true → AnsweredAll limit law m after i k served
+            → ends_with engine law n.state piece ≡ true → ServedInPieces limit law m after i k served
         Serving-done {served} reports done =
             let is_done : served.done ≡ true = reports.done ∙ done in
             record {
@@ -200,7 +200,7 @@ module _ {limit : Option ℕ} {S : Type 0} {law : SessionLaw S} {m : Snapshot S}
         Serving-failed error (inl room) = absurd (cc)
 
     pub Serving-all : {served : Served} → Reports served engine → ReadsEnd j k
-        → AnsweredAll limit law m n i k served
+        → ServedInPieces limit law m n i k served
     Serving-all {served} reports end =
         let still_on : served.done ≡ false = reports.done ∙ on in
         record {
@@ -275,10 +275,10 @@ known_input P (Some input) (Some rest) read consumed at_end it =
     it input rest refl consumed at_end
 
 -- what all pieces come to
-pub AnsweredAll-serves : {limit : Option ℕ} {S : Type 0} {law : SessionLaw S} {m n : Snapshot S}
-    {i k : InputState} {served : Served} → AnsweredAll limit law m n i k served
+pub ServedInPieces-serves : {limit : Option ℕ} {S : Type 0} {law : SessionLaw S} {m n : Snapshot S}
+    {i k : InputState} {served : Served} → ServedInPieces limit law m n i k served
     → Serves limit law m n i k served
-AnsweredAll-serves {limit} {law} {m} {i} all = record {
+ServedInPieces-serves {limit} {law} {m} {i} all = record {
   read = concat all.pieces;
   given = all.were_read.given;
   at_end = λ on. WereRead-ended (all.at_end on) (rw on at all.were_read);
@@ -288,15 +288,26 @@ AnsweredAll-serves {limit} {law} {m} {i} all = record {
   done = all.ended;
   tested = all.scanned;
   left = all.left;
+}
+
+-- and what a client reads of it
+pub ServedInPieces-reads_back : {limit : Option ℕ} {S : Type 0} {law : SessionLaw S}
+    {m n : Snapshot S} {i k : InputState} {served : Served}
+    → ServedInPieces limit law m n i k served → AreReadBack limit law m.state i k
+ServedInPieces-reads_back {limit} {law} {m} all = record {
+  read = concat all.pieces;
+  given = all.were_read.given;
   read_back =
       ReadsBack-encoded (replies law m.state (run_for limit law m.state (concat all.pieces)));
 }
 
 pub served_serves : {S : Type 0} (limit : Option ℕ) (law : SessionLaw S) (m n : Snapshot S)
     (i k : InputState) (result : Result Served ServeError)
-    → IfOk result (AnsweredAll limit law m n i k) → IfOk result (Serves limit law m n i k)
-served_serves limit law m n i k (Ok served) all = AnsweredAll-serves all
-served_serves limit law m n i k (Err error) all = tt
+    → IfOk result (ServedInPieces limit law m n i k)
+    → IfOk result (Serves limit law m n i k) × OnOk result (AreReadBack limit law m.state i k)
+served_serves limit law m n i k (Ok served) all =
+    (ServedInPieces-serves all, ServedInPieces-reads_back all)
+served_serves limit law m n i k (Err error) all = (tt, tt)
 
 module _ {limit : Option ℕ} {S : Type 0} {law : SessionLaw S} {m n : Snapshot S} {i k : InputState}
     {served : Served} (s : Serves limit law m n i k served) where
@@ -355,16 +366,18 @@ module _ {limit : Option ℕ} {S : Type 0} {law : SessionLaw S} {m n : Snapshot 
       (known rest is end (alike_read limit law m.state s.read rest served.done s.done end)))
 
 -- the bound
-pub AnsweredAll-bound : {limit : ℕ} {S : Type 0} {law : SessionLaw S} {m n : Snapshot S}
+pub ServedInPieces-bound : {limit : ℕ} {S : Type 0} {law : SessionLaw S} {m n : Snapshot S}
     {i k : InputState}
-    {served : Served} → AnsweredAll (Some limit) law m n i k served → served.held ≤ limit + 4096
-AnsweredAll-bound {limit} all =
+    {served : Served} → ServedInPieces (Some limit) law m n i k served → served.held ≤ limit + 4096
+ServedInPieces-bound {limit} all =
     omega (arith, all.held, most_held-within limit [] all.pieces all.were_read.sizes)
 
 pub served_limited : {S : Type 0} (limit : ℕ) (law : SessionLaw S) (m n : Snapshot S)
     (i k : InputState)
-    (result : Result Served ServeError) → IfOk result (AnsweredAll (Some limit) law m n i k)
+    (result : Result Served ServeError) → IfOk result (ServedInPieces (Some limit) law m n i k)
     → IfOk result (Serves (Some limit) law m n i k)
+    × OnOk result (AreReadBack (Some limit) law m.state i k)
     × IfOk result (λ served. served.held ≤ limit + 4096)
-served_limited limit law m n i k (Ok served) all = (AnsweredAll-serves all, AnsweredAll-bound all)
-served_limited limit law m n i k (Err error) all = (tt, tt)
+served_limited limit law m n i k (Ok served) all =
+    (ServedInPieces-serves all, ServedInPieces-reads_back all, ServedInPieces-bound all)
+served_limited limit law m n i k (Err error) all = (tt, tt, tt)

@@ -8,10 +8,10 @@ use Rattle.unftp_control_defs.specs.Run.{SessionLaw, after_end, ends_for, run_fo
 use Rattle.unftp_control_defs.proofs.LineLemmas.{incomplete_line-append}
 use Rattle.unftp_control_defs.proofs.RunLemmas.{after_end-ended, after_end-on, run_of-all, run-ended, unread-ended}
 use Rattle.unftp_control_serve.specs.Decoder.{saturating_u64}
-use Rattle.unftp_control_serve.specs.Endings.{AllAnswered, RunFailed, Snapshot}
+use Rattle.unftp_control_serve.specs.Endings.{RunFinished, RunFailed, Snapshot}
 use Rattle.unftp_control_serve.specs.Engine.{AreScanned, EngineState, after_end_with, bytes_with, fed, fresh, more_left}
 use Rattle.unftp_control_serve.specs.declared.error.ServeError.{ServeError}
-use Rattle.unftp_control_serve.proofs.EndingLemmas.{AllAnswered-nothing, GoneOn, GoneOn-answered, GoneOn-failed}
+use Rattle.unftp_control_serve.proofs.EndingLemmas.{RunFinished-nothing, GoneOn, GoneOn-answered, GoneOn-failed}
 
 -- the run over what was sent is answered, up to its end
 pub record AnsweredSoFar {S : Type 0} (limit : Option ℕ) (law : SessionLaw S) (m n : Snapshot S)
@@ -22,7 +22,7 @@ pub record AnsweredSoFar {S : Type 0} (limit : Option ℕ) (law : SessionLaw S) 
   pub incomplete : engine.finished ≡ false → engine.incomplete ≡ incomplete_line sent
   pub left : engine.left ≡ saturating_u64 (length (unread limit law m.state sent))
   pub scanned : AreScanned engine.scanned (length sent) (length (after_end limit law m.state sent))
-  pub answered : AllAnswered law m (run_for limit law m.state sent) n
+  pub answered : RunFinished law m (run_for limit law m.state sent) n
 
 pub AnsweredSoFar-start : {S : Type 0} (limit : Option ℕ) (law : SessionLaw S) (m : Snapshot S)
     → AnsweredSoFar limit law m m [] (fresh limit)
@@ -33,7 +33,7 @@ AnsweredSoFar-start limit law m = record {
   incomplete = λ _. refl;
   left = refl;
   scanned = record { once = omega arith; each = omega arith; few = omega arith };
-  answered = AllAnswered-nothing law m;
+  answered = RunFinished-nothing law m;
 }
 
 module _ {limit : Option ℕ} {S : Type 0} {law : SessionLaw S} {m n : Snapshot S} {sent : Bytes}
@@ -45,17 +45,17 @@ module _ {limit : Option ℕ} {S : Type 0} {law : SessionLaw S} {m n : Snapshot 
         let goes_on : ends_for limit law m.state sent ≡ false = sym so_far.finished ∙ on in
         record {
           goes_on = goes_on;
-          answered = subst (λ run. AllAnswered law m run n)
+          answered = subst (λ run. RunFinished law m run n)
               (run_of-all law m.state (events limit sent) goes_on) so_far.answered;
         }
 
     module _ (piece : Bytes) where
       pub AnsweredSoFar-on : {k : Snapshot S} (scanned : ℕ) → AreScanned scanned
           (engine.scanned + length piece) (length (after_end_with engine law n.state piece))
-          → AllAnswered law n (run_for engine.limit law n.state (bytes_with engine piece)) k
+          → RunFinished law n (run_for engine.limit law n.state (bytes_with engine piece)) k
           → AnsweredSoFar limit law m k (sent ++ piece) (fed law n.state engine piece scanned)
       AnsweredSoFar-on {k} scanned are all =
-          let all : AllAnswered law n (run_for limit law n.state (incomplete_line sent ++ piece)) k =
+          let all : RunFinished law n (run_for limit law n.state (incomplete_line sent ++ piece)) k =
           rw (so_far.limited, so_far.incomplete on) at all in
           let run = GoneOn-answered gone_on piece
           (record { answered = all; ended_is = refl; left_is = refl }) in

@@ -122,9 +122,9 @@ pub record RunEnded {S : Type 0} (law : SessionLaw S) (before : Snapshot S)
   pub given : HasAnswered (whole_text law before.state done sent) cause before after
 
 -- It ended because all events were answered.
-abbrev pub AllAnswered : {S : Type 0} → SessionLaw S → Snapshot S → List FtpEvent → Snapshot S
+abbrev pub RunFinished : {S : Type 0} → SessionLaw S → Snapshot S → List FtpEvent → Snapshot S
     → Type 0
-AllAnswered law before events after = RunEnded law before events [] [] Finished after
+RunFinished law before events after = RunEnded law before events [] [] Finished after
 
 -- At one event it ended with this error, after the replies `sent`; memory for its line was there.
 pub record EventFailed {S : Type 0} (law : SessionLaw S) (before : Snapshot S) (event : FtpEvent)
@@ -138,7 +138,7 @@ pub record EventFailed {S : Type 0} (law : SessionLaw S) (before : Snapshot S) (
 abbrev pub EventOutcome : {S T : Type 0} → SessionLaw S → Snapshot S → FtpEvent → Snapshot S
     → Result T ServeError → Type 0
 EventOutcome law before event after result = MatchResult result
-    (λ _. AllAnswered law before (event ∷ []) after)
+    (λ _. RunFinished law before (event ∷ []) after)
     (λ failure. EventFailed law before event after failure)
 
 -- The run over an input ended with this error, after all replies to its events `done`, and the
@@ -159,7 +159,7 @@ pub record RunFailed (limit : Option ℕ) {S : Type 0} (law : SessionLaw S) (bef
 -- after its last line.
 pub record RunAnswered (limit : Option ℕ) {S : Type 0} (law : SessionLaw S) (before : Snapshot S)
     (input : Bytes) (after : Snapshot S) (ended : Bool) (left : Bytes) : Type 0 where
-  pub answered : AllAnswered law before (run_for limit law before.state input) after
+  pub answered : RunFinished law before (run_for limit law before.state input) after
   pub ended_is : ended ≡ ends_for limit law before.state input
   pub left_is : left ≡ unread limit law before.state input
 
@@ -178,7 +178,7 @@ NoRoom failure lacks before after =
 abbrev pub PieceOutcome : {S T : Type 0} → Option ℕ → SessionLaw S → Snapshot S → Bytes → Type 0
     → Snapshot S → Result T ServeError → Type 0
 PieceOutcome limit law before input lacks after result = MatchResult result
-    (λ _. AllAnswered law before (run_for limit law before.state input) after)
+    (λ _. RunFinished law before (run_for limit law before.state input) after)
     (λ failure. NoRoom failure lacks before after
     ⊎ ((done : List FtpEvent) × RunFailed limit law before input after failure done))
 

@@ -10,7 +10,7 @@ use Rattle.unftp_control_defs.specs.Lines.{incomplete_line}
 use Rattle.unftp_control_defs.specs.ReplyReader.{ReadsBack}
 use Rattle.unftp_control_defs.specs.Run.{SessionLaw, last_state, replies, run_for, ends_for, text_for, unread, after_end}
 use Rattle.unftp_control_serve.specs.Writing.{Begins, IsFlushed, HasWritten}
-use Rattle.unftp_control_serve.specs.Endings.{Snapshot, AllAnswered, RunFailed}
+use Rattle.unftp_control_serve.specs.Endings.{Snapshot, RunFinished, RunFailed}
 use Rattle.unftp_control_serve.specs.Decoder.{kept_length, saturating_u64}
 use Rattle.unftp_control_serve.specs.Engine.{AreScanned, EngineState}
 use Rattle.unftp_control_serve.specs.declared.service.Served.{Served}
@@ -36,8 +36,8 @@ most_held limit incomplete (piece ∷ pieces) = max
 module _ (limit : Option ℕ) {S : Type 0} (law : SessionLaw S) (before after : Snapshot S)
     (input input' : InputState) where
   -- All lines of these pieces were answered, and the run goes on.
-  pub record Answered (pieces : List Bytes) : Type 0 where
-    pub answered : AllAnswered law before (events limit (concat pieces)) after
+  pub record AnsweredPieces (pieces : List Bytes) : Type 0 where
+    pub answered : RunFinished law before (events limit (concat pieces)) after
     pub goes_on : ends_for limit law before.state (concat pieces) ≡ false
 
   -- It goes on after all pieces but the last.
@@ -50,13 +50,13 @@ module _ (limit : Option ℕ) {S : Type 0} (law : SessionLaw S) (before after : 
   -- The lines of the run over what was read were answered. Either the run ended, in the last
   -- piece; or the reader came to its end, and gave nothing then. So many bytes came after the
   -- run's last line; so many comparisons with a line feed were made; and so many bytes were held.
-  pub record AnsweredAll (served : Served) : Type 0 where
+  pub record ServedInPieces (served : Served) : Type 0 where
     pub pieces : List Bytes
     pub were_read : WereRead input input' pieces (if served.done then [] else 0 ∷ [])
     pub ended : served.done ≡ ends_for limit law before.state (concat pieces)
     pub in_last : served.done ≡ true → EndsInLast pieces
     pub at_end : served.done ≡ false → IsAtEnd input'.remaining
-    pub answered : AllAnswered law before (run_for limit law before.state (concat pieces)) after
+    pub answered : RunFinished law before (run_for limit law before.state (concat pieces)) after
     pub left : served.left ≡ saturating_u64 (length (unread limit law before.state (concat pieces)))
     pub scanned : AreScanned served.tests (length (concat pieces))
         (length (after_end limit law before.state (concat pieces)))
@@ -79,21 +79,21 @@ module _ (limit : Option ℕ) {S : Type 0} (law : SessionLaw S) (before after : 
     pub pieces : List Bytes
     pub last : Bytes
     pub were_read : WereRead input input' (pieces ++ last ∷ []) []
-    pub answered : Answered pieces
+    pub answered : AnsweredPieces pieces
     pub no_read_failed : input'.failures ≡ input.failures
 
   -- The last read failed, and all lines of what was read were answered.
   pub record ReadFailed : Type 0 where
     pub pieces : List Bytes
     pub were_read : WereRead input input' pieces []
-    pub answered : Answered pieces
+    pub answered : AnsweredPieces pieces
     pub read_failed : input'.failures ≡ input.failures + 1
 
   -- There were too many reads, and all lines of what was read were answered.
   pub record ReadTooOften : Type 0 where
     pub pieces : List Bytes
     pub were_read : WereRead input input' pieces []
-    pub answered : Answered pieces
+    pub answered : AnsweredPieces pieces
     pub many : 2 ^ 64 - 1 ≤ length (concat pieces)
     pub no_read_failed : input'.failures ≡ input.failures
 
@@ -128,11 +128,16 @@ pub record Serves (limit : Option ℕ) {S : Type 0} (law : SessionLaw S) (before
   pub tested : AreScanned served.tests (length read) (length (after_end limit law before.state read))
   -- So many bytes came after the last line of the run.
   pub left : served.left ≡ saturating_u64 (length (unread limit law before.state read))
-  -- What was written is read as what the replies show, and as nothing else, where each is plain.
-  pub read_back : AllByRecursion IsPlain
-      (replies law before.state (run_for limit law before.state read))
-      → ReadsBack (text_for limit law before.state read)
-      (replies law before.state (run_for limit law before.state read))
+
+-- The replies to what was read, from this state on, are read by a client as what they show, and as
+-- nothing else, where each is plain.
+pub record AreReadBack (limit : Option ℕ) {S : Type 0} (law : SessionLaw S) (state : S)
+    (input input' : InputState) : Type 0 where
+  pub read : Bytes
+  pub given : HasRead input input' read
+  pub read_back : AllByRecursion IsPlain (replies law state (run_for limit law state read))
+      → ReadsBack (text_for limit law state read)
+      (replies law state (run_for limit law state read))
 
 -- What follows where the bytes of the whole input are known, read or not, as those of a slice are:
 -- what was read may be a part of it, where the handler ended the session, and the same is so of

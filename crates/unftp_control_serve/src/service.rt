@@ -1,8 +1,8 @@
 //! A whole connection, from the first read to the end of the input.
-ghost use Rattle.std.specs.Prelude.{◌≤◌, ◌+◌, ℕ, None, Some, Option, IfOk, IfErr, IfSome, List};
+ghost use Rattle.std.specs.Prelude.{◌≤◌, ◌+◌, ℕ, None, Some, Option, IfOk, IfErr, IfSome, OnOk, List};
 ghost use Rattle.unftp_control_serve.specs.Endings.{Snapshot, snapshot_of};
 ghost use Rattle.unftp_control_defs.specs.Input.{InputState, input_state_of};
-ghost use Rattle.unftp_control_serve.specs.Service.{AnsweredAll, Reports, ServeEnded, Serves, ServesKnown};
+ghost use Rattle.unftp_control_serve.specs.Service.{AreReadBack, ServedInPieces, Reports, ServeEnded, Serves, ServesKnown};
 ghost use Rattle.unftp_control_serve.specs.declared.service.Served.{Served as Report};
 
 use crate::engine::Engine;
@@ -57,8 +57,12 @@ pub fn serve<R: Read, W: Write, H: Session>(
         (snapshot_of H.state H.failures W.contents handler.new writer.new)
         (input_state_of R.remaining reader.old)
         (input_state_of R.remaining reader.new)) }
+    // A client reads the replies, and nothing else, where each of them is plain.
+    ensures read_back { OnOk result (AreReadBack None (H.law (H.heard handler.new))
+        (H.state handler.old)
+        (input_state_of R.remaining reader.old) (input_state_of R.remaining reader.new)) }
     // In which pieces it was read, and what was held; and what is so at each error.
-    ensures ok { IfOk result (AnsweredAll None (H.law (H.heard handler.new))
+    ensures ok { IfOk result (ServedInPieces None (H.law (H.heard handler.new))
         (snapshot_of H.state H.failures W.contents handler.old writer.old)
         (snapshot_of H.state H.failures W.contents handler.new writer.new)
         (input_state_of R.remaining reader.old)
@@ -92,9 +96,12 @@ pub fn serve_with_limit<R: Read, W: Write, H: Session>(
         (snapshot_of H.state H.failures W.contents handler.new writer.new)
         (input_state_of R.remaining reader.old)
         (input_state_of R.remaining reader.new)) }
+    ensures read_back { OnOk result (AreReadBack (Some limit) (H.law (H.heard handler.new))
+        (H.state handler.old)
+        (input_state_of R.remaining reader.old) (input_state_of R.remaining reader.new)) }
     // At Ok the buffer has held at most the limit and one piece.
     ensures bound { IfOk result (λ served. served.held ≤ limit + 4096) }
-    ensures ok { IfOk result (AnsweredAll (Some limit) (H.law (H.heard handler.new))
+    ensures ok { IfOk result (ServedInPieces (Some limit) (H.law (H.heard handler.new))
         (snapshot_of H.state H.failures W.contents handler.old writer.old)
         (snapshot_of H.state H.failures W.contents handler.new writer.new)
         (input_state_of R.remaining reader.old)
@@ -118,7 +125,7 @@ fn serve_lines<R: Read, W: Write, H: Session>(
     handler: &mut H,
 ) -> Result<Served, ServeError>
     requires { IfSome limit (λ limit. 1 ≤ limit) }
-    ensures ok { IfOk result (AnsweredAll limit (H.law (H.heard handler.new))
+    ensures ok { IfOk result (ServedInPieces limit (H.law (H.heard handler.new))
         (snapshot_of H.state H.failures W.contents handler.old writer.old)
         (snapshot_of H.state H.failures W.contents handler.new writer.new)
         (input_state_of R.remaining reader.old)

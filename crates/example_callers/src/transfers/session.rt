@@ -5,7 +5,7 @@ ghost use Rattle.unftp_control_defs.specs.Events.{out_of_memory};
 ghost use Rattle.unftp_control_defs.specs.Run.{last_state, run_for, text_for};
 ghost use Rattle.unftp_control_defs.specs.Input.{input_state_of};
 ghost use Rattle.unftp_control_serve.specs.Endings.{snapshot_of};
-ghost use Rattle.unftp_control_serve.specs.Service.{ServeEnded, Serves};
+ghost use Rattle.unftp_control_serve.specs.Service.{AreReadBack, ServeEnded, Serves};
 ghost use Rattle.unftp_control_message.specs.ErrorMeaning.{fault_of};
 ghost use Rattle.unftp_control_message.specs.ReplyMeaning.{reply_of};
 ghost use Rattle.unftp_control_serve.specs.Answering.{FirstAnswer, FurtherAnswer};
@@ -260,6 +260,9 @@ pub fn serve_transfers<R: Read, W: Write, D: DataConnection>(
     ensures ok { IfOk result (Serves None (transfers_law (D.answers transfers.new.connection))
         (snapshot_of (state_of D.answers) transfer_failures W.contents transfers.old writer.old)
         (snapshot_of (state_of D.answers) transfer_failures W.contents transfers.new writer.new)
+        (input_state_of R.remaining reader.old) (input_state_of R.remaining reader.new)) }
+    ensures read_back { OnOk result (AreReadBack None
+        (transfers_law (D.answers transfers.new.connection)) (state_of D.answers transfers.old)
         (input_state_of R.remaining reader.old) (input_state_of R.remaining reader.new)) }
     ensures err { IfErr result (ServeEnded None (transfers_law (D.answers transfers.new.connection))
         (snapshot_of (state_of D.answers) transfer_failures W.contents transfers.old writer.old)

@@ -17,7 +17,7 @@ ghost use Rattle.unftp_control_defs.specs.ComputedValue.{value_of};
 ghost use Rattle.unftp_control_defs.specs.declared.verb.Kind.TheVariants as kinds;
 ghost use Rattle.unftp_control_codecs.specs.Memory.{MayTakeMemory, OnOutOfMemory, ParsesTo, PartsTo, ReadsTo};
 ghost use Rattle.unftp_control_codecs.specs.ParseAnswer.{Returns};
-ghost use Rattle.unftp_control_codecs.specs.WordsMeaning.{AreWords, BeginsWith, EndsAfterByte, IsLone, IsSubcommand, IsUsual, Sends, refuses};
+ghost use Rattle.unftp_control_codecs.specs.WordsMeaning.{AreWords, BeginsWithWords, EndsAfterByte, IsLone, IsSubcommand, IsUsual, Sends, refuses};
 
 use crate::line_parser::fields::{listing, optional_text, path_in, raw, text};
 use crate::line_parser::typed::typed;
@@ -205,7 +205,7 @@ impl<'a> Words<'a> {
     /// The words that a line begins with. It takes no memory.
     #[inline(always)]
     pub fn of(line: &'a [u8]) -> Words<'a>
-        ensures begins { BeginsWith line.now result }
+        ensures begins { BeginsWithWords line.now result }
         ensures means { AreWords (outcome line.now) result }
         ensures in_line { EndsAfterByte line.now result.parameter.now }
     {

@@ -5,7 +5,7 @@ ghost use Rattle.unftp_control_defs.specs.Bytes.{Bytes};
 ghost use Rattle.unftp_control_defs.specs.Events.{Fault, Command};
 ghost use Rattle.unftp_control_defs.specs.FtpCommand.{User};
 ghost use Rattle.unftp_control_defs.specs.FtpReply.{CodeAndMsg};
-ghost use Rattle.unftp_control_serve.specs.Endings.{Snapshot, Finished, Write, Handler, LineMemory, ReplyMemory, IsCauseOf, AllAnswered, EventFailed, RunEnded, RunFailed, RunOutcome, PieceOutcome, NoRoom, OnWrite};
+ghost use Rattle.unftp_control_serve.specs.Endings.{Snapshot, Finished, Write, Handler, LineMemory, ReplyMemory, IsCauseOf, RunFinished, EventFailed, RunEnded, RunFailed, RunOutcome, PieceOutcome, NoRoom, OnWrite};
 ghost use Rattle.unftp_control_serve.specs.Engine.{IsFed, LacksPieceRoom, fed};
 ghost use Rattle.unftp_control.specs.Snapshots.{counter, noop, silent, snapshot, two_replies, waiting};
 ghost use Rattle.unftp_control_serve.specs.Writing.{Begins, IsFlushed, OneFlush, OneWrite, OutputState, Sends, output_state_of};
@@ -16,7 +16,7 @@ use unftp_control_serve::ServeError;
 /// The handler took both events, their replies were written and flushed, and nothing failed.
 pub fn all_events_are_answered()
     ensures answered { (after : Snapshot ℕ)
-        → AllAnswered counter (snapshot 3 (codes "x") 1) (noop ∷ noop ∷ []) after
+        → RunFinished counter (snapshot 3 (codes "x") 1) (noop ∷ noop ∷ []) after
         → (after.state ≡ 5) × (after.output.unflushed ≤ 0)
         × Appends (Some (codes "x")) after.output.written (codes "200 OK\r\n200 OK\r\n") }
     ensures none_left { (after : Snapshot ℕ)

@@ -5,10 +5,11 @@ ghost use Rattle.std.specs.Io.KnownBytes.{Appends};
 ghost use Rattle.unftp_control_defs.specs.Bytes.{Bytes};
 ghost use Rattle.unftp_control_defs.specs.Events.{events};
 ghost use Rattle.unftp_control_defs.specs.Input.{InputState};
-ghost use Rattle.unftp_control_serve.specs.Endings.{Snapshot, AllAnswered};
+ghost use Rattle.unftp_control_defs.specs.ReplyReader.{AllReplies};
+ghost use Rattle.unftp_control_serve.specs.Endings.{Snapshot, RunFinished};
 ghost use Rattle.unftp_control.specs.RunEnd.{EndsAfter, EndsNowhere};
 ghost use Rattle.unftp_control.specs.Snapshots.{counter, counter_to_five, noop, snapshot, snapshot_of_any_writer};
-ghost use Rattle.unftp_control_serve.specs.Service.{AnsweredAll, EndsInLast, EndedLate, NoRoomForPiece, ServeEnded, Serves, ServesKnown, most_held};
+ghost use Rattle.unftp_control_serve.specs.Service.{AreReadBack, ServedInPieces, EndsInLast, EndedLate, NoRoomForPiece, ServeEnded, Serves, ServesKnown, most_held};
 ghost use Rattle.unftp_control_serve.specs.Writing.{Begins};
 ghost use Rattle.unftp_control_serve.specs.declared.service.Served.{Served};
 
@@ -24,7 +25,7 @@ pub fn errors_of_serve()
         → Begins v.done (events None (concat v.pieces)) }
     ensures no_room { (before after : Snapshot ℕ) (input input_after : InputState)
         (v : NoRoomForPiece None counter before after input input_after)
-        → AllAnswered counter before (events None (concat v.pieces)) after × (v.last ≡ [] → ⊥) }
+        → RunFinished counter before (events None (concat v.pieces)) after × (v.last ≡ [] → ⊥) }
 {}
 
 /// An input without its last line feed that was served whole, of a reader and a writer whose
@@ -48,8 +49,22 @@ pub fn any_stream_is_served()
         → served.done ≡ false → input.reads ≡ 8 ∷ [] → ⊥ }
     // a read that gave nothing is the last one
     ensures read_no_more { (before after : Snapshot ℕ) (input input_after : InputState)
-        (served : Served) → AnsweredAll None counter before after input input_after served
+        (served : Served) → ServedInPieces None counter before after input input_after served
         → input.reads ≡ [] → input_after.reads ≡ 4 ∷ 0 ∷ 0 ∷ [] → ⊥ }
+{}
+
+/// What a client reads of the reply to a NOOP, over streams whose contracts know nothing.
+pub fn a_reply_is_read_so()
+    ensures holds { AreReadBack None counter 3
+        (record { given = []; reads = []; failures = 0; remaining = None })
+        (record { given = codes "NOOP\r\n"; reads = 6 ∷ []; failures = 0; remaining = None }) }
+    ensures only { (before after : InputState) → AreReadBack None counter 3 before after
+        → before.given ≡ [] → after.given ≡ codes "NOOP\r\n"
+        → (others : List (ℕ × List Bytes)) → AllReplies (codes "200 OK\r\n") others
+        → others ≡ (200, codes "OK" ∷ []) ∷ [] }
+    // what the reads gave before is not taken back
+    ensures not_of_less { (before after : InputState) → AreReadBack None counter 3 before after
+        → before.given ≡ codes "N" → after.given ≡ [] → ⊥ }
 {}
 
 /// Where a run ends: at the fifth event, and nowhere where there are fewer.
@@ -70,7 +85,7 @@ pub fn a_session_is_ended()
         × (after.state ≡ 5) × (served.done ≡ true) × (served.left ≡ 6)
         × (6 ≤ served.tests) × (served.tests ≤ 14) }
     ensures going_on { (after : Snapshot ℕ) (input input_after : InputState) (served : Served)
-        (all : AnsweredAll None counter_to_five (snapshot 4 (codes "x") 0) after input input_after
+        (all : ServedInPieces None counter_to_five (snapshot 4 (codes "x") 0) after input input_after
         served)
         → served.done ≡ true → all.pieces ≡ codes "NOOP" ∷ [] → ⊥ }
     ensures in_last { (after : Snapshot ℕ) (input input_after : InputState) (pieces : List Bytes)

@@ -6,14 +6,14 @@ use Rattle.unftp_control_defs.specs.Bytes.{Bytes}
 use Rattle.unftp_control_codecs.specs.declared.FirstLine.TheVariants.{Incomplete}
 use Rattle.unftp_control_codecs.specs.FirstLine.{reset}
 use Rattle.unftp_control_codecs.proofs.FirstLineLemmas.{scans_few}
-use Rattle.unftp_control_c.specs.Next.{given_for, Call, Left, codec_of, next_codec, scans}
+use Rattle.unftp_control_c.specs.Next.{given_for, NextCall, Left, codec_of, next_codec, scans}
 use Rattle.unftp_control_c.specs.Taking.{AreCallerSteps, Called, Caller, CallerStep, Received, after_call, after_piece, caller_call, input_of, is_made_again, new_caller, scanned_by, unscanned}
 use Rattle.unftp_control_c.proofs.CallLemmas.{NextLeft, invalid, asks, gave, Valid, left_so, once_given, valid_resumed, valid_with_piece}
 use Rattle.unftp_control_c.proofs.NextLemmas.{counts_of, offset_within}
 use Rattle.unftp_control_c.proofs.laws.bytes_are_scanned_once.Goals as goal
 
 module _ (now : Caller) (ok : Valid now) (area : Bytes) where
-  abbrev call : Call
+  abbrev call : NextCall
   call = caller_call now area
 
   record Does (left : Left) : Type 0 where

@@ -10,7 +10,7 @@ use Rattle.unftp_control_codecs.specs.FirstLine.{IsDropped, IsScannedWithin, res
 use Rattle.unftp_control_codecs.specs.declared.FirstLine.TheVariants.{Incomplete}
 use Rattle.unftp_control_codecs.proofs.FirstLineLemmas.{Finds, finds}
 use Rattle.unftp_control_c.specs.declared.status.Status.TheVariants.{More}
-use Rattle.unftp_control_c.specs.Next.{Call, Given, Left, at_next_line, codec_of, first_of, given_for, line_limit, next_codec}
+use Rattle.unftp_control_c.specs.Next.{NextCall, Given, Left, at_next_line, codec_of, first_of, given_for, line_limit, next_codec}
 use Rattle.unftp_control_c.specs.Numbers.{status_number}
 use Rattle.unftp_control_c.specs.Taking.{AreCallerSteps, Called, Caller, CallerStep, Received, after_call, after_piece, all_given, caller_call, given_by, gives_none, input_of, new_caller}
 use Rattle.unftp_control_c.specs.declared.next.Connection.{Connection}
@@ -61,7 +61,7 @@ record Does (limit : Option ℕ) (before : Bytes) (given : List Given) (after : 
 
 module _ {limit : Option ℕ} (now : Caller) (dropped : Bytes) (kept_so : IsKept limit now dropped)
     (area : Bytes) where
-  abbrev call : Call
+  abbrev call : NextCall
   call = caller_call now area
 
   found_now : Finds (codec_of now.connection) dropped now.bytes (next_codec call) (first_of call)

@@ -4,7 +4,7 @@ use Rattle.unftp_control_defs.specs.Bytes.{Bytes}
 use Rattle.unftp_control_codecs.specs.declared.FirstLine.TheVariants.{Incomplete}
 use Rattle.unftp_control_codecs.specs.Codec.{is_too_long}
 use Rattle.unftp_control_c.specs.declared.status.Status.TheVariants.{More}
-use Rattle.unftp_control_c.specs.Next.{Call, Left, codec_of}
+use Rattle.unftp_control_c.specs.Next.{NextCall, Left, codec_of}
 use Rattle.unftp_control_c.specs.Numbers.{status_number}
 use Rattle.unftp_control_c.specs.Taking.{Caller, after_call, caller_call}
 use Rattle.unftp_control_c.proofs.CallLemmas.{NextLeft, invalid, asks, gave, gives_some, left_so, within_limit}
@@ -30,7 +30,7 @@ module _ (caller : Caller) (some : 1 ≤ caller.connection.limit) (area : Bytes)
   few _ _ is = absurd (omega (arith, is))
 
 -- no call changes the limit
-same_limit : (call : Call) (left : Left) → NextLeft call left
+same_limit : (call : NextCall) (left : Left) → NextLeft call left
     → left.connection.limit ≡ call.connection.limit
 same_limit call _ (invalid not_valid) = refl
 same_limit call _ _ = refl

@@ -4,7 +4,7 @@ use Rattle.std.proofs.lemmas.Bool.Decides.{nat_tests}
 use Rattle.std.proofs.lemmas.Option.{same_Some}
 use Rattle.unftp_control_codecs.specs.LineFeed.{line_feed_from}
 use Rattle.unftp_control_c.specs.declared.status.Status.TheVariants.{NoRoom}
-use Rattle.unftp_control_c.specs.Next.{Call, Left, given_for}
+use Rattle.unftp_control_c.specs.Next.{NextCall, Left, given_for}
 use Rattle.unftp_control_c.specs.Numbers.{status_number}
 use Rattle.unftp_control_c.proofs.AddressRoomLemmas.{address_room}
 use Rattle.unftp_control_c.proofs.CallLemmas.{FirstEvent, NextLeft, gave, no_room, gives_some, left_so}
@@ -14,13 +14,13 @@ use Rattle.unftp_control_c.proofs.RoomLemmas.{lengths, written_room}
 use Rattle.unftp_control_c.proofs.ReplyRoomLemmas.{quoted_room, reply_room}
 use Rattle.unftp_control_c.proofs.laws.rooms_are_bounded.Goals as goal
 
-ends_small : {call : Call} (k : ℕ) → line_feed_from call.bytes call.connection.offset ≡ Some k
+ends_small : {call : NextCall} (k : ℕ) → line_feed_from call.bytes call.connection.offset ≡ Some k
     → (first : FirstEvent call) → lengths first.event ≤ 3 * (k + 1)
 ends_small k at first =
     let same : first.ends.line_feed ≡ k = same_Some _ _ (sym first.ends.at ∙ at) in
     omega (arith, first.small, first.ends.ends, same)
 
-module _ (call : Call) where
+module _ (call : NextCall) where
   bounded : (left : Left) (k : ℕ)
       → line_feed_from call.bytes call.connection.offset ≡ Some k
       → NextLeft call left → left.line.name_len + left.line.value_len ≤ 3 * (k + 1)

@@ -1,5 +1,5 @@
 use Rattle.std.proofs.Common.{inr, refl, rules, take}
-use Rattle.unftp_control_read.specs.ReplyDecoding.{BeginsWith}
+use Rattle.unftp_control_read.specs.ReplyDecoding.{BeginsWithReply}
 use Rattle.unftp_control_proxy.specs.ProxyCalls.{ReplyBytes, TakesReplyBytes}
 use Rattle.unftp_control_proxy.proofs.CallLemmas.{takes_whole}
 use Rattle.unftp_control_proxy.proofs.proxy.Proxy.pass_reply.Goals as goal
@@ -27,7 +27,7 @@ pub returns-clause-ok : goal.returns-clause-ok
 returns-clause-ok c =
     let first = c.in-Some.first in
     let server = c.args.self.now.server in
-    let begins : BeginsWith server.limit server.bytes first.code first.length = search rules in
+    let begins : BeginsWithReply server.limit server.bytes first.code first.length = search rules in
     let reply : ReplyBytes = record {
       code = first.code;
       lines = begins.lines;

@@ -1,5 +1,5 @@
 use Rattle.std.proofs.Common.{refl, rules, take}
-use Rattle.unftp_control_read.specs.ReplyDecoding.{BeginsWith}
+use Rattle.unftp_control_read.specs.ReplyDecoding.{BeginsWithReply}
 use Rattle.unftp_control_proxy.specs.ProxyAnswers.{IsReplyOf}
 use Rattle.unftp_control_proxy.proofs.proxy.Proxy.replace_reply.Goals as goal
 
@@ -28,7 +28,7 @@ pub returns-clause-ok : goal.returns-clause-ok
 returns-clause-ok c =
     let first = c.in-Ok-Some.first in
     let server = c.args.self.now.server in
-    let begins : BeginsWith server.limit server.bytes first.code first.length = search rules in
+    let begins : BeginsWithReply server.limit server.bytes first.code first.length = search rules in
     let whole : IsReplyOf first.code c.args.other.now = search rules in
     record {
       came = record {
