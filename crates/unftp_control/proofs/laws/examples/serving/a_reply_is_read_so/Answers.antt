@@ -1,22 +1,32 @@
-use Rattle.std.proofs.Common.{rules, ◌≡◌, ◌≤◌, ℕ, true, false, [], ◌∷◌, List, None, Some, codes, ◌+◌, ◌-◌, ◌*◌, ◌<◌, length, ◌/◌, ◌%◌, Bool, nat_eq, nat_lt, ◌++◌, slice_index_or, slice_set, bit_and, bit_or, Fits, w8, w32, w64, Bor, MutBor}
-use Rattle.std.specs.List.{concat}
-use Rattle.std.specs.Io.KnownBytes.{Appends}
+use Rattle.std.proofs.Common.{◌≡◌, ℕ, None, List, [], ◌∷◌, ◌++◌, codes, refl, sym, ap, subst, ◌∙◌, arith, lit<, lit≤}
+use Rattle.std.specs.Fmt.{digits}
+use Rattle.std.specs.List.{AllByRecursion}
 use Rattle.unftp_control_defs.specs.Bytes.{Bytes}
-use Rattle.unftp_control_defs.specs.Events.{events}
-use Rattle.unftp_control_defs.specs.Input.{InputState}
-use Rattle.unftp_control_defs.specs.ReplyReader.{AllReplies}
-use Rattle.unftp_control_serve.specs.Endings.{Snapshot, RunFinished}
-use Rattle.unftp_control.specs.RunEnd.{EndsAfter, EndsNowhere}
-use Rattle.unftp_control.specs.Snapshots.{counter, counter_to_five, noop, snapshot, snapshot_of_any_writer}
-use Rattle.unftp_control_serve.specs.Service.{AreReadBack, ServedInPieces, EndsInLast, EndedLate, NoRoomForPiece, ServeEnded, Serves, ServesKnown, most_held}
-use Rattle.unftp_control_serve.specs.Writing.{Begins}
-use Rattle.unftp_control_serve.specs.declared.service.Served.{Served}
+use Rattle.unftp_control_defs.specs.FtpReply.{IsPlain, CodeAndMsg}
+use Rattle.unftp_control_defs.specs.ReplyReader.{ReadsBack}
+use Rattle.unftp_control_defs.specs.Run.{replies, run_for, text_for}
+use Rattle.unftp_control_defs.proofs.EncodingLemmas.{ReadsBack-encoded}
+use Rattle.unftp_control_defs.proofs.LackLemmas.{Lacks-test}
+use Rattle.unftp_control_serve.specs.Service.{AreReadBack}
+use Rattle.unftp_control.specs.Snapshots.{counter}
 use Rattle.unftp_control.proofs.laws.examples.serving.a_reply_is_read_so.Goals as goal
 
--- src/laws/examples/serving.rt:57:1
-pub returns-clause-holds : goal.returns-clause-holds
-returns-clause-holds c = ?
+plain : AllByRecursion IsPlain (CodeAndMsg 200 (codes "OK") ∷ [])
+plain = (((lit≤ tt, lit< tt), Lacks-test 10 (codes "OK") refl), tt)
 
--- src/laws/examples/serving.rt:57:1
-pub returns-clause-only : goal.returns-clause-only
-returns-clause-only c = ?
+pub returns : goal.returns
+unfolding digits
+returns c = record {
+  holds = record {
+    read = codes "NOOP\r\n";
+    given = record { given = refl; known = tt };
+    read_back = ReadsBack-encoded (replies counter 3 (run_for None counter 3 (codes "NOOP\r\n")));
+  };
+  only = λ before after v none is others all.
+      let read : v.read ≡ codes "NOOP\r\n" =
+      sym (sym is ∙ v.given.given ∙ ap (λ bytes. bytes ++ v.read) none) in
+      (subst (λ read. AllByRecursion IsPlain (replies counter 3 (run_for None counter 3 read))
+      → ReadsBack (text_for None counter 3 read) (replies counter 3 (run_for None counter 3 read)))
+      read v.read_back plain).1 others all;
+  not_of_less = λ before after v some none. cc;
+}
