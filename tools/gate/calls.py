@@ -101,6 +101,11 @@ class Item:
     def __str__(self):
         return "::".join(it for it in (self.owner or self.trait, self.name) if it)
 
+    def is_law(self):
+        """Whether it is a function that does nothing, whose contract is a law."""
+        is_called = self.owner or self.trait or self.types or self.returns or self.is_for_c
+        return not (is_called or self.name == "main")
+
     def read_function(self, lines):
         """Reads whose method it is, and its signature; its words are then those of its body."""
         indent = re.match(" *", lines[self.first - 1])[0]

@@ -1,0 +1,86 @@
+"""What a function of a file states: the sentence of its documentation, its signature in a line, and
+its clauses, each with the comment above it."""
+
+import re
+from collections import namedtuple
+
+from calls import UNREAD
+from edit_copies import body_of
+
+BEGINS = re.compile(r" *(requires|ensures)(?: (\w+))? \{")
+SENTENCE = re.compile(r"(.+?[.!?])(?= |$)")
+# a clause: `requires` or `ensures`, its name or "", the words above it, and its lines
+Clause = namedtuple("Clause", "kind name words lines")
+
+
+def indent_of(line):
+    return re.match(" *", line)[0]
+
+
+def end_of_clause(lines, at):
+    """The line after the clause that begins here: its braces are closed there."""
+    depth = 0
+    for place in range(at, len(lines)):
+        code = UNREAD.sub(" ", lines[place])
+        depth += code.count("{") - code.count("}")
+        if depth == 0:
+            return place + 1
+    return len(lines)
+
+
+def clauses_of(lines, item):
+    """The clauses of a function of these lines, which are those of its file."""
+    last = body_of(lines, item.first, item.last, indent_of(lines[item.first - 1])) or item.last
+    at, words, found = item.first, [], []
+    while at < last:
+        if begins := BEGINS.match(lines[at]):
+            end = end_of_clause(lines, at)
+            found.append(Clause(begins[1], begins[2] or "", words, lines[at:end]))
+            words, at = [], end
+            # (a method of a trait that has no body)
+            if lines[end - 1].endswith(";"):
+                break
+        else:
+            is_comment = re.match(r" *// ", lines[at])
+            words = [*words, lines[at].strip().removeprefix("// ")] if is_comment else []
+            at += 1
+    return found
+
+
+def documentation(lines, item):
+    """The text above a function, without its signs."""
+    at = item.first - 1
+    while at and lines[at - 1].strip() and not is_other(lines[at - 1]):
+        at -= 1
+    above = (line.strip() for line in lines[at : item.first - 1])
+    return "\n".join(it.removeprefix("///").strip() for it in above if it.startswith("///"))
+
+
+def is_other(line):
+    """Whether a line above a function belongs to something else."""
+    return not line.lstrip().startswith("///") and line.rstrip().endswith(("{", "}", ";"))
+
+
+def first_sentence(text):
+    """The first sentence of a text, in one line."""
+    paragraph = " ".join(text.partition("\n\n")[0].split())
+    found = SENTENCE.match(paragraph)
+    return found[1] if found else paragraph
+
+
+def signature(lines, item, most=96):
+    """The signature of a function in one line: where it is longer, without types of parameters."""
+    head = []
+    for line in lines[item.first - 1 : item.last]:
+        if BEGINS.match(line) or re.match(r" *(//|\{)", line):
+            break
+        head.append(line.strip())
+        if line.endswith(("{", "{}", ";")):
+            break
+    whole = " ".join(" ".join(head).rstrip("{;} ").split())
+    whole = re.sub(r"^.*?\bfn ", "fn ", whole).replace("( ", "(").replace(",)", ")")
+    if len(whole) <= most:
+        return whole
+    returned = re.search(r"\) (-> .*)$", whole)
+    names = ", ".join(it for it in item.types)
+    return f"fn {item.name}({names})" + (f" {returned[1]}" if returned else "")
