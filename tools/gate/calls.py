@@ -26,6 +26,8 @@ USE = re.compile(rf"^{PUBLIC}use ([^;]*);", re.M)
 EXPORT = re.compile(r"^pub (?:use|mod) ([^;]*);", re.M)
 # a method of what these hold is called on it once it is taken out
 WRAPPERS = {"Option", "Result", "Box"}
+# crates whose functions are examples and tests, and the program that answers the rows of vectors/
+EXAMPLES = {"example_callers", "unftp_control_tests", "vector_replay"}
 # the standard library's methods that return what they are called on, or what that holds
 SAME = {"as_ref", "as_mut", "clone", "ok", "ok_or", "unwrap", "unwrap_or", "expect", "map_err", "take", "iter"}
 
@@ -96,6 +98,7 @@ class Item:
         self.types, self.bounds = {}, {}
         self.is_public = lines[first - 1].lstrip().startswith("pub ")
         self.is_for_c = ' extern "C" ' in lines[first - 1]
+        self.is_function = False
         self.words = words_of(lines[first - 1 : last])
 
     def __str__(self):
@@ -108,6 +111,7 @@ class Item:
 
     def read_function(self, lines):
         """Reads whose method it is, and its signature; its words are then those of its body."""
+        self.is_function = True
         indent = re.match(" *", lines[self.first - 1])[0]
         above = reversed(lines[: self.first - 1] if indent else [])
         if found := next(filter(None, (IMPL.match(it) or TRAIT.match(it) for it in above)), None):
@@ -177,6 +181,14 @@ class Calls:
         is_open = modules in (["lib"], ["main"]) or set(modules) <= self.exports[item.crate]
         is_open = is_open or item.is_for_c or (item.owner or item.name) in self.exports[item.crate]
         return item.is_public and is_open
+
+    def programs(self):
+        """The crates that have a function `main`."""
+        return {it.crate for it in self.items if it.name == "main"}
+
+    def libraries(self):
+        """The other crates but those of examples and tests, lowest first."""
+        return [crate for crate in self.uses if crate not in self.programs() | EXAMPLES]
 
     def seen(self, crate):
         """The crates that a crate's words may name: itself, and those below it."""

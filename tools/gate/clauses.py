@@ -35,10 +35,11 @@ def clauses_of(lines, item):
     while at < last:
         if begins := BEGINS.match(lines[at]):
             end = end_of_clause(lines, at)
-            found.append(Clause(begins[1], begins[2] or "", words, lines[at:end]))
+            *within, ending = lines[at:end]
+            found.append(Clause(begins[1], begins[2] or "", words, [*within, ending.rstrip(";")]))
             words, at = [], end
             # (a method of a trait that has no body)
-            if lines[end - 1].endswith(";"):
+            if ending.endswith(";"):
                 break
         else:
             is_comment = re.match(r" *// ", lines[at])
@@ -78,7 +79,7 @@ def signature(lines, item, most=96):
         if line.endswith(("{", "{}", ";")):
             break
     whole = " ".join(" ".join(head).rstrip("{;} ").split())
-    whole = re.sub(r"^.*?\bfn ", "fn ", whole).replace("( ", "(").replace(",)", ")")
+    whole = re.sub(r"^.*?\bfn ", "fn ", whole).replace("( ", "(").replace(", )", ")")
     if len(whole) <= most:
         return whole
     returned = re.search(r"\) (-> .*)$", whole)

@@ -2,6 +2,7 @@
 
 import re
 import sys
+import textwrap
 
 from edit_files import TOP
 
@@ -60,20 +61,29 @@ def link(path, folder):
     return f"[{name}]({'../' * len(folder.relative_to(TOP).parts)}{target})"
 
 
+def filled(text, indent=""):
+    """A paragraph in lines of at most 100 columns, all but the first indented."""
+    lines = textwrap.wrap(
+        text, 100, subsequent_indent=indent, break_long_words=False, break_on_hyphens=False
+    )
+    return "\n".join(lines)
+
+
 def compare(pages, folder, tool, write):
-    """Writes the pages of a folder, by their names, or compares them; returns what differs."""
-    there = {path.name: read(path) for path in folder.glob("*.md")}
+    """Writes the pages of a folder, by their names, or compares them; returns what is wrong with
+    each page that is there or ought to be."""
     if write:
         folder.mkdir(exist_ok=True)
-        for name in there.keys() - pages.keys():
-            (folder / name).unlink()
+        for path in folder.glob("*.md"):
+            path.unlink()
         for name, text in pages.items():
             (folder / name).write_text(text, encoding="utf-8")
-        return []
-    named = sorted(there.keys() | pages.keys())
-    stale = [name for name in named if there.get(name) != pages.get(name)]
-    place = folder.relative_to(TOP)
-    return [f"{place}/{name} is stale: tools/gate/{tool} --write makes it" for name in stale]
+    there = {path.name: read(path) for path in folder.glob("*.md")}
+    said = f"is stale: tools/gate/{tool} --write makes it"
+    return {
+        name: [] if there.get(name) == pages.get(name) else [f"{folder.name}/{name} {said}"]
+        for name in sorted(there.keys() | pages.keys())
+    }
 
 
 def told(checks):
