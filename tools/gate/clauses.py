@@ -7,7 +7,11 @@ from collections import namedtuple
 from calls import UNREAD
 from edit_copies import body_of
 
+# what only contracts see begins so: clauses, the facts of loops, `ghost` items, and tactics
+UNSEEN = re.compile(r" *(?:requires|ensures|invariant|decreases|ghost|#!?\[tactic)\b")
 BEGINS = re.compile(r" *(requires|ensures)(?: (\w+))? \{")
+# imports and modules
+OTHER = re.compile(r" *(?:pub(?:\([a-z]+\))? )?(?:use|mod)\b")
 SENTENCE = re.compile(r"(.+?[.!?])(?= |$)")
 # a clause: `requires` or `ensures`, its name or "", the words above it, and its lines
 Clause = namedtuple("Clause", "kind name words lines")
@@ -18,14 +22,37 @@ def indent_of(line):
 
 
 def end_of_clause(lines, at):
-    """The line after the clause that begins here: its braces are closed there."""
+    """The line after what begins here: a clause, a `ghost` item or an attribute. Its brackets are
+    closed there."""
     depth = 0
     for place in range(at, len(lines)):
         code = UNREAD.sub(" ", lines[place])
-        depth += code.count("{") - code.count("}")
+        depth += sum(code.count(it) for it in "{[(") - sum(code.count(it) for it in "}])")
         if depth == 0:
             return place + 1
     return len(lines)
+
+
+def seen_and_unseen(lines, laws):
+    """How many lines of a file are code, and how many only contracts see: laws are all of these.
+    Comments, empty lines and `use` are neither."""
+    in_laws = {at for law in laws for at in range(law.first - 1, law.last)}
+    seen, unseen, at = 0, 0, 0
+    while at < len(lines):
+        end = end_of_clause(lines, at) if UNSEEN.match(lines[at]) else at + 1
+        if UNSEEN.match(lines[at]) or at in in_laws:
+            unseen += sum(is_code(it) for it in lines[at:end])
+        elif OTHER.match(lines[at]):
+            while not lines[end - 1].endswith((";", "{")):
+                end += 1
+        else:
+            seen += is_code(lines[at])
+        at = end
+    return seen, unseen
+
+
+def is_code(line):
+    return bool(line.strip()) and not line.lstrip().startswith("//")
 
 
 def clauses_of(lines, item):

@@ -13,6 +13,7 @@ ROOT = "Rattle."
 IMPORT = re.compile(
     r"^ *(?:pub |ghost )?use (Rattle\.[\w.]+)(?:\.\{([^}]*)\}| as ([\w-]+))?;?$", re.M
 )
+MODULES = re.compile(r"^(?:pub )?mod \w+$", re.M)
 NAME = r"[^\s(){}\[\],;:]+"
 HEAD = re.compile(
     rf"^( *)(?:(?:abbrev|unfoldable) (?:pub )?({NAME}) :|(?:pub )?(record|data) ({NAME}))"
