@@ -69,6 +69,18 @@ def filled(text, indent=""):
     return "\n".join(lines)
 
 
+def titled(about, most=72):
+    """A title of the first sentence of a text, up to what explains it; and what the text says
+    besides."""
+    sentence = re.match(r".*?(?:\.(?= |$)|: |$)", about)[0]
+    title = sentence.rstrip(".: ")
+    for cut in (" (", ", ", "; "):
+        if len(title) > most or title.count("(") > title.count(")"):
+            title = title.partition(cut)[0]
+    is_whole = title == sentence.rstrip(".")
+    return title, about.removeprefix(sentence).strip() if is_whole else about
+
+
 def compare(pages, folder, tool, write):
     """Writes the pages of a folder, by their names, or compares them; returns what is wrong with
     each page that is there or ought to be."""
