@@ -21,7 +21,7 @@ HEAD = re.compile(
 MODULE = re.compile(r"^module .*")
 CONSTRUCTOR = re.compile(rf"^ +({NAME}(?: {NAME})*) :( |$)")
 FIELD = re.compile(rf"^ +pub ({NAME}(?: {NAME})*) :( |$)")
-TOKEN = re.compile(r"[(){}\[\],;]|[^\s(){}\[\],;]+")
+TOKEN = re.compile(r"\[\]|[(){}\[\],;]|[^\s(){}\[\],;]+")
 STRING = re.compile(r'"(?:\\.|[^"\\])*"')
 CLOSING = {"(": ")", "{": "}", "[": "]"}
 # signs of the language, which no file defines
