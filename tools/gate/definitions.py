@@ -16,7 +16,7 @@ IMPORT = re.compile(
 MODULES = re.compile(r"^(?:pub )?mod \w+$", re.M)
 NAME = r"[^\s(){}\[\],;:]+"
 HEAD = re.compile(
-    rf"^( *)(?:(?:abbrev|unfoldable) (?:pub )?({NAME}) :|(?:pub )?(record|data) ({NAME}))"
+    rf"^( {{0,2}})(?:(?:abbrev|unfoldable) (?:pub )?({NAME}) :|(?:pub )?(record|data) ({NAME}))"
 )
 MODULE = re.compile(r"^module .*")
 CONSTRUCTOR = re.compile(rf"^ +({NAME}(?: {NAME})*) :( |$)")
@@ -24,8 +24,9 @@ FIELD = re.compile(rf"^ +pub ({NAME}(?: {NAME})*) :( |$)")
 TOKEN = re.compile(r"\[\]|[(){}\[\],;]|[^\s(){}\[\],;]+")
 STRING = re.compile(r'"(?:\\.|[^"\\])*"')
 CLOSING = {"(": ")", "{": "}", "[": "]"}
-# signs of the language, which no file defines
-SIGNS = set("→ × ↔ λ = : let in record data where abbrev pub _".split())
+# words of the language, which no file defines
+SIGNS = set("→ × ↔ λ = : let in module record data where abbrev pub _ Type Unit".split())
+WORD = re.compile(r"[^\W\d_][^.]*")
 
 # a name that another file defines: its module, and its own name there
 Import = namedtuple("Import", "module name")
@@ -74,15 +75,16 @@ class Definition:
         return code_of(self.lines)
 
     def parts(self):
-        """Its parts that have names of their own: a type and each equation, or all of a record."""
+        """Its parts with names of their own: a type and equations, or a head and members."""
         indent = re.match(" *", self.lines[0])[0]
-        begins = re.compile(rf"{indent}{re.escape(self.name)}(?= |$)")
+        equation = re.compile(rf"{indent}{re.escape(self.name)}(?= |$)")
+        begins = {"data": CONSTRUCTOR, "record": FIELD}.get(self.kind, equation)
         parts = [[]]
         for line in self.code():
             if begins.match(line):
                 parts.append([])
             parts[-1].append(line)
-        return ["\n".join(part) for part in parts]
+        return [tokens(" ".join(part)) for part in parts if part]
 
 
 class File:
@@ -129,10 +131,11 @@ class File:
 
 
 class Definitions:
-    """All files of specs/, by their modules."""
+    """All files of specs/, by their modules; and the names that mean nothing, each with the
+    definition that has it."""
 
     def __init__(self, folder=TOP / "crates"):
-        self.folder, self.files = folder, {}
+        self.folder, self.files, self.unknown = folder, {}, []
         for path in sorted(folder.glob("*/specs/**/*.antt")):
             module = ".".join(path.relative_to(folder).with_suffix("").parts)
             self.files[ROOT + module] = File(path)
@@ -143,7 +146,8 @@ class Definitions:
     def found(self, module, name):
         """What a name of a module is."""
         if file := self.files.get(module):
-            return file.meaning(name)
+            again = file.imports.get(name)
+            return file.meaning(name) or (again and self.found(*again))
         crate, _, rest = module.removeprefix(ROOT).partition(".specs.")
         if (self.folder / crate).is_dir() and rest.startswith("declared"):
             return self.declared(crate, rest.removesuffix(".TheVariants").split(".")[1:])
@@ -161,11 +165,10 @@ class Definitions:
     def named(self, definition):
         """What a definition names, in the order of first use, itself left out."""
         text = Names(self, definition.file.imports, definition.file.aliases, definition.file)
-        bound = set(definition.members if definition.kind == "record" else [])
-        if definition.module:
-            bound |= text.read(tokens(" ".join(code_of(definition.module))), set())
+        bound = text.read(tokens(" ".join(code_of(definition.module))), set())
         for part in definition.parts():
-            text.read_part(part, definition, set(bound))
+            bound |= text.read_part(part, definition, bound)
+        self.unknown += [(definition, word) for word in text.unknown]
         return [it for it in text.found if it is not definition]
 
 
@@ -175,7 +178,7 @@ class Names:
     def __init__(self, definitions, imports, aliases, file=None):
         self.definitions, self.file = definitions, file
         self.imports, self.aliases = imports, aliases
-        self.found = []
+        self.found, self.unknown = [], []
         self.operators = {
             part: name for name in imports if "◌" in name for part in name.split("◌") if part
         }
@@ -191,24 +194,28 @@ class Names:
         return self.definitions.found(*imported) if imported else None
 
     def note(self, word):
-        if word not in SIGNS and (it := self.meaning(word)) and it not in self.found:
+        it = self.meaning(word) if word not in SIGNS else None
+        if it and it not in self.found:
             self.found.append(it)
+        if not it and word not in SIGNS and WORD.match(word):
+            self.unknown.append(word)
 
-    def read_part(self, text, definition, bound):
-        """Reads a type, an equation or a record."""
-        words = tokens(text)
+    def read_part(self, words, definition, bound):
+        """Reads a part of a definition; returns the names that it binds in the later ones."""
         if definition.kind == "abbrev" and words[0] == definition.name:
-            sign = words.index("=")
-            bound |= self.bound_by(words[1:sign])
-            words = words[sign + 1 :]
-        elif definition.kind != "abbrev":
-            # (its fields and constructors are no uses of these names)
-            words = [it for it in words if it not in definition.members or it in bound]
-        self.read(words, bound)
+            sign = outer(words, "=")
+            self.read(words[sign + 1 :], bound | self.bound_by(words[1:sign]))
+            return set()
+        sign = words.index(":") if ":" in words else 0
+        names = {it for it in words[:sign] if it in definition.members}
+        found = self.read(words[sign if names else 0 :], bound)
+        if definition.kind == "record":
+            return found | names
+        return found if definition.kind == "data" and not names else set()
 
     def bound_by(self, patterns):
         """The names that patterns bind: those that are no constructors."""
-        names = {it for it in patterns if re.match(r"[a-z_]", it) and "." not in it}
+        names = {it for it in patterns if re.match(r"[^\W\d]", it) and "." not in it}
         bound = {it for it in names if not self.is_constructor(it)}
         for word in patterns:
             if word not in bound:
@@ -218,7 +225,7 @@ class Names:
     def is_constructor(self, word):
         it = self.meaning(word)
         if isinstance(it, Definition):
-            return it.kind == "data" and it.name != word
+            return it.kind == "data" and (it.name != word or word in it.members)
         return it is not None
 
     def read(self, words, bound):
@@ -227,7 +234,7 @@ class Names:
         while at < len(words):
             word = words[at]
             if word in CLOSING:
-                end = self.closing(words, at)
+                end = closing(words, at)
                 bound = bound | self.read_group(words[at + 1 : end], bound)
                 at = end
             elif word == "λ":
@@ -251,15 +258,23 @@ class Names:
         self.read(words, bound)
         return set()
 
-    @staticmethod
-    def closing(words, at):
-        """The place of the bracket that closes the one here."""
-        opened, depth = words[at], 0
-        for place in range(at, len(words)):
-            depth += (words[place] == opened) - (words[place] == CLOSING[opened])
-            if depth == 0:
-                return place
-        return len(words)
+
+def closing(words, at):
+    """The place of the bracket that closes the one here."""
+    opened, depth = words[at], 0
+    for place in range(at, len(words)):
+        depth += (words[place] == opened) - (words[place] == CLOSING[opened])
+        if depth == 0:
+            return place
+    return len(words)
+
+
+def outer(words, sign):
+    """The place of a sign outside of brackets."""
+    at = 0
+    while words[at] != sign:
+        at = closing(words, at) + 1 if words[at] in CLOSING else at + 1
+    return at
 
 
 def closure(roots, uses):
