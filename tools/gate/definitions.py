@@ -144,14 +144,15 @@ class Definitions:
         return [it for file in self.files.values() for it in file.definitions.values()]
 
     def found(self, module, name):
-        """What a name of a module is."""
+        """What a name of a module is, or None where the module hasn't got it."""
         if file := self.files.get(module):
             again = file.imports.get(name)
             return file.meaning(name) or (again and self.found(*again))
         crate, _, rest = module.removeprefix(ROOT).partition(".specs.")
-        if (self.folder / crate).is_dir() and rest.startswith("declared"):
-            return self.declared(crate, rest.removesuffix(".TheVariants").split(".")[1:])
-        return Foreign(name, f"{crate}/specs/{rest.replace('.', '/')}")
+        if not (self.folder / crate).is_dir():
+            return Foreign(name, f"{crate}/specs/{rest.replace('.', '/')}")
+        folder, *path = rest.removesuffix(".TheVariants").split(".")
+        return self.declared(crate, path) if folder == "declared" else None
 
     def declared(self, crate, path):
         """The type of Rust of a `declared` file, and the file that has it."""
