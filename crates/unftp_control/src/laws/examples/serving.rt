@@ -5,11 +5,10 @@ ghost use Rattle.std.specs.Io.KnownBytes.{Appends};
 ghost use Rattle.unftp_control_defs.specs.Bytes.{Bytes};
 ghost use Rattle.unftp_control_defs.specs.Events.{events};
 ghost use Rattle.unftp_control_defs.specs.Input.{InputState};
-ghost use Rattle.unftp_control_defs.specs.ReplyReader.{AllReplies};
 ghost use Rattle.unftp_control_serve.specs.Endings.{Snapshot, RunFinished};
 ghost use Rattle.unftp_control.specs.RunEnd.{EndsAfter, EndsNowhere};
 ghost use Rattle.unftp_control.specs.Snapshots.{counter, counter_to_five, noop, snapshot, snapshot_of_any_writer};
-ghost use Rattle.unftp_control_serve.specs.Service.{AreReadBack, ServedInPieces, EndsInLast, EndedLate, NoRoomForPiece, ServeEnded, Serves, ServesKnown, most_held};
+ghost use Rattle.unftp_control_serve.specs.Service.{ServedInPieces, EndsInLast, EndedLate, NoRoomForPiece, ServeEnded, Serves, ServesKnown, most_held};
 ghost use Rattle.unftp_control_serve.specs.Writing.{Begins};
 ghost use Rattle.unftp_control_serve.specs.declared.service.Served.{Served};
 
@@ -51,20 +50,6 @@ pub fn any_stream_is_served()
     ensures read_no_more { (before after : Snapshot ℕ) (input input_after : InputState)
         (served : Served) → ServedInPieces None counter before after input input_after served
         → input.reads ≡ [] → input_after.reads ≡ 4 ∷ 0 ∷ 0 ∷ [] → ⊥ }
-{}
-
-/// What a client reads of the reply to a NOOP, over streams whose contracts know nothing.
-pub fn a_reply_is_read_so()
-    ensures holds { AreReadBack None counter 3
-        (record { given = []; reads = []; failures = 0; remaining = None })
-        (record { given = codes "NOOP\r\n"; reads = 6 ∷ []; failures = 0; remaining = None }) }
-    ensures only { (before after : InputState) → AreReadBack None counter 3 before after
-        → before.given ≡ [] → after.given ≡ codes "NOOP\r\n"
-        → (others : List (ℕ × List Bytes)) → AllReplies (codes "200 OK\r\n") others
-        → others ≡ (200, codes "OK" ∷ []) ∷ [] }
-    // what the reads gave before is not taken back
-    ensures not_of_less { (before after : InputState) → AreReadBack None counter 3 before after
-        → before.given ≡ codes "N" → after.given ≡ [] → ⊥ }
 {}
 
 /// Where a run ends: at the fifth event, and nowhere where there are fewer.

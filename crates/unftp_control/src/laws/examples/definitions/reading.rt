@@ -1,12 +1,16 @@
 //! Replies as a client reads them.
 #![tactic(auto, unfolding(unftp_control_defs::proofs::Computing::at_bytes))]
 
-ghost use Rattle.std.specs.Prelude.{◌≡◌, [], ◌∷◌, ◌++◌, None, Some, codes};
+ghost use Rattle.std.specs.Prelude.{◌≡◌, ℕ, List, [], ◌∷◌, ◌++◌, None, Some, codes};
 ghost use Rattle.unftp_control_defs.specs.Buffer.{held_after_piece};
+ghost use Rattle.unftp_control_defs.specs.Bytes.{Bytes};
 ghost use Rattle.unftp_control_defs.specs.FtpReply.{Nothing, CodeAndMsg};
+ghost use Rattle.unftp_control_defs.specs.Input.{InputState};
 ghost use Rattle.unftp_control_defs.specs.ReplyLimit.{IsTooLongReply};
 ghost use Rattle.unftp_control_defs.specs.ReplyReader.{LacksCrlf, SpellsCode, GoesOn, FrontReply, HasFront, Opens, IsMalformed, IsPartial, AllReplies, ReadsBack};
 ghost use Rattle.unftp_control_defs.specs.TakingSteps.{TakesReply, AreReplies, Pushed, Taken, AreTakingSteps};
+ghost use Rattle.unftp_control_serve.specs.Service.{AreReadBack};
+ghost use Rattle.unftp_control.specs.Snapshots.{counter};
 
 /// Where a text has no CR LF.
 pub fn texts_lack_crlf()
@@ -113,6 +117,20 @@ pub fn replies_are_read_back_so()
         (CodeAndMsg 200 (codes "a\r\n221") ∷ []) }
     ensures four_digits { ¬ ReadsBack (codes "1000\r\n") (CodeAndMsg 1000 [] ∷ []) }
     ensures all_but_one { ¬ AllReplies (codes "200 a\r\n221\r\n") ((200, codes "a" ∷ []) ∷ []) }
+{}
+
+/// What a client reads of the reply to a NOOP, over streams whose contracts know nothing.
+pub fn a_reply_is_read_so()
+    ensures holds { AreReadBack None counter 3
+        (record { given = []; reads = []; failures = 0; remaining = None })
+        (record { given = codes "NOOP\r\n"; reads = 6 ∷ []; failures = 0; remaining = None }) }
+    ensures only { (before after : InputState) → AreReadBack None counter 3 before after
+        → before.given ≡ [] → after.given ≡ codes "NOOP\r\n"
+        → (others : List (ℕ × List Bytes)) → AllReplies (codes "200 OK\r\n") others
+        → others ≡ (200, codes "OK" ∷ []) ∷ [] }
+    // what the reads gave before is not taken back
+    ensures not_of_less { (before after : InputState) → AreReadBack None counter 3 before after
+        → before.given ≡ codes "N" → after.given ≡ [] → ⊥ }
 {}
 
 /// Which bytes are these replies and then others.

@@ -9,7 +9,7 @@ use Rattle.unftp_control_defs.proofs.EncodingLemmas.{ReadsBack-encoded}
 use Rattle.unftp_control_defs.proofs.LackLemmas.{Lacks-test}
 use Rattle.unftp_control_serve.specs.Service.{AreReadBack}
 use Rattle.unftp_control.specs.Snapshots.{counter}
-use Rattle.unftp_control.proofs.laws.examples.serving.a_reply_is_read_so.Goals as goal
+use Rattle.unftp_control.proofs.laws.examples.definitions.reading.a_reply_is_read_so.Goals as goal
 
 plain : AllByRecursion IsPlain (CodeAndMsg 200 (codes "OK") ∷ [])
 plain = (((lit≤ tt, lit< tt), Lacks-test 10 (codes "OK") refl), tt)
