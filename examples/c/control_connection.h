@@ -706,12 +706,15 @@ static inline bool control_is_servers_turn(const struct control_proxy *proxy)
 }
 
 /* Waits for either end, and exchanges what it is ready for. A client that is owed no reply may send
-   nothing for so many milliseconds. */
+   nothing for so many milliseconds. Where the session is over, nothing is waited for. */
 static inline void control_proxy_wait(struct control_proxy *proxy, int idle)
 {
     struct pollfd polled[] = {control_polled(&proxy->client), control_polled(&proxy->server)};
-    int count = poll(polled, 2, control_is_servers_turn(proxy) ? -1 : idle);
+    int count;
 
+    if (proxy->is_over)
+        return;
+    count = poll(polled, 2, control_is_servers_turn(proxy) ? -1 : idle);
     if (count == 0 || (count < 0 && errno != EINTR))
         control_proxy_end(proxy, count == 0 ? "timeout" : "poll failed");
     if (count <= 0)

@@ -11,9 +11,8 @@
  */
 #define _POSIX_C_SOURCE 200809L
 
+#include "control_connection.h"
 #include "data_connection.h"
-
-#include <unftp_control.h>
 
 #include <dirent.h>
 #include <limits.h>
@@ -22,15 +21,8 @@
 #include <stdlib.h>
 #include <sys/stat.h>
 #include <sys/time.h>
-#include <sys/types.h>
 
 enum {
-    LINE_LIMIT = 4096,
-    READ_MOST = 4096,
-    AREA_ROOM = 3 * LINE_LIMIT,
-    LOG_ROOM = 4 * LINE_LIMIT + 42,
-    /* what the replies of unftp_usual_reply and unftp_login_reply have at most */
-    USUAL_ROOM = 64,
     /* what a line of LIST has besides the name, at most */
     LIST_ROOM = 112,
     PIECE = 64 * 1024,
@@ -46,50 +38,19 @@ enum {
 };
 
 struct session {
-    int control;
-    const char *peer;
-    struct unftp_connection connection;
-    struct unftp_login login;
-    char name[LINE_LIMIT];
-    size_t name_len;
+    struct control control;
+    struct control_login login;
     struct data_port data;
-    char bytes[LINE_LIMIT + READ_MOST]; /* those from start to end are pending */
-    size_t start;
-    size_t end;
+    const char *peer;
 };
 
-static bool send_bytes(int socket, const char *bytes, size_t len)
-{
-    while (len > 0) {
-        ssize_t sent = write(socket, bytes, len);
-
-        if (sent < 0 && errno != EINTR)
-            return false;
-        if (sent > 0) {
-            bytes += sent;
-            len -= (size_t)sent;
-        }
-    }
-    return true;
-}
-
-/* Sends a reply with this text, which is short; false where the session is over. */
-static bool answer(struct session *session, uint32_t code, const char *text)
-{
-    char reply[DATA_TEXT_ROOM + 16];
-    size_t len;
-
-    return unftp_reply(code, text, strlen(text), reply, sizeof reply, &len) == UNFTP_DONE
-        && send_bytes(session->control, reply, len);
-}
-
 /* The path of the file that a line names; NULL where that is none of the folder. */
-static const char *path_of(const char *line, size_t line_len, char *path)
+static const char *path_of(const struct control_line *line, char *path)
 {
     size_t len;
     const char *name = path;
 
-    if (unftp_parameter(line, line_len, path, NAME_MAX + 1, &len) != UNFTP_DONE)
+    if (unftp_parameter(line->bytes, line->len, path, NAME_MAX + 1, &len) != UNFTP_DONE)
         return NULL;
     path[len] = '\0';
     if (*name == '/')
@@ -109,23 +70,43 @@ static void limit_waiting(int socket)
     setsockopt(socket, SOL_SOCKET, SO_SNDTIMEO, &idle, sizeof idle);
 }
 
-/* The data connection, once it is open; or -1, where the client was answered 425. */
-static int open_data(struct session *session, bool *is_open)
+static void answer(struct session *session, uint32_t code, const char *text)
+{
+    control_say(&session->control, code, text);
+}
+
+/* The data connection, once it is open; or -1, where the client is answered 425. */
+static int open_data(struct session *session)
 {
     const char *text = "PASV or EPSV comes first";
     int data = -1;
 
-    *is_open = true;
     if (data_port_is_prepared(&session->data)) {
-        *is_open = answer(session, UNFTP_CODE_FILE_STATUS_OKAY, "Opening the data connection");
+        answer(session, UNFTP_CODE_FILE_STATUS_OKAY, "Opening the data connection");
+        control_send(&session->control);
         data = data_port_open(&session->data, OPENING);
         text = strerror(errno);
     }
     if (data >= 0)
         limit_waiting(data);
     else
-        *is_open = *is_open && answer(session, UNFTP_CODE_CANT_OPEN_DATA_CONNECTION, text);
+        answer(session, UNFTP_CODE_CANT_OPEN_DATA_CONNECTION, text);
     return data;
+}
+
+static bool write_bytes(int to, const char *bytes, size_t len)
+{
+    while (len > 0) {
+        ssize_t written = write(to, bytes, len);
+
+        if (written < 0 && errno != EINTR)
+            return false;
+        if (written > 0) {
+            bytes += written;
+            len -= (size_t)written;
+        }
+    }
+    return true;
 }
 
 /* Copies up to the end. */
@@ -135,76 +116,84 @@ static bool copy(int from, int to)
     ssize_t got;
 
     while ((got = read(from, piece, sizeof piece)) > 0) {
-        if (!send_bytes(to, piece, (size_t)got))
+        if (!write_bytes(to, piece, (size_t)got))
             return false;
     }
     return got == 0;
 }
 
-/* Closes the data connection, and sends the final reply. */
-static bool end_transfer(struct session *session, int data, bool is_done)
+/* Closes the data connection, and answers the transfer. */
+static void end_transfer(struct session *session, int data, bool is_done)
 {
     close(data);
-    return is_done ? answer(session, UNFTP_CODE_CLOSING_DATA_CONNECTION, "Done")
-                   : answer(session, UNFTP_CODE_CONNECTION_CLOSED, "Cut");
+    if (is_done)
+        answer(session, UNFTP_CODE_CLOSING_DATA_CONNECTION, "Done");
+    else
+        answer(session, UNFTP_CODE_CONNECTION_CLOSED, "Cut");
 }
 
 /* Sends what a file has. */
-static bool send_file(struct session *session, int file)
+static void send_file(struct session *session, int file)
 {
-    bool is_open;
-    int data = open_data(session, &is_open);
+    int data = open_data(session);
 
-    if (data < 0)
-        return is_open;
-    return end_transfer(session, data, copy(file, data) && shutdown(data, SHUT_WR) == 0);
+    if (data >= 0)
+        end_transfer(session, data, copy(file, data) && shutdown(data, SHUT_WR) == 0);
 }
 
-static bool answer_no_file(struct session *session)
+static void answer_no_file(struct session *session)
 {
-    return answer(session, UNFTP_CODE_FILE_ERROR, strerror(errno));
+    answer(session, UNFTP_CODE_FILE_ERROR, strerror(errno));
 }
 
-static bool retrieve(struct session *session, const char *path)
+static void retrieve(struct session *session, const char *path)
 {
     int file = open(path, O_RDONLY | O_CLOEXEC);
-    bool is_open;
 
-    if (file < 0)
-        return answer_no_file(session);
-    is_open = send_file(session, file);
+    if (file < 0) {
+        answer_no_file(session);
+        return;
+    }
+    send_file(session, file);
     close(file);
-    return is_open;
 }
 
-static bool store(struct session *session, const char *path)
+/* Puts what comes into a file, and closes the data connection. */
+static void receive_file(struct session *session, int data, const char *path)
 {
-    bool is_open, is_done;
-    int file, data = open_data(session, &is_open);
+    int file = open(path, O_WRONLY | O_CREAT | O_TRUNC | O_CLOEXEC, 0666);
+    bool is_done;
 
-    if (data < 0)
-        return is_open;
-    file = open(path, O_WRONLY | O_CREAT | O_TRUNC | O_CLOEXEC, 0666);
     if (file < 0) {
-        is_open = answer_no_file(session);
+        answer_no_file(session);
         close(data);
-        return is_open;
+        return;
     }
     is_done = copy(data, file);
     is_done = close(file) == 0 && is_done;
-    return end_transfer(session, data, is_done);
+    end_transfer(session, data, is_done);
+}
+
+static void store(struct session *session, const char *path)
+{
+    int data = open_data(session);
+
+    if (data >= 0)
+        receive_file(session, data, path);
 }
 
 /* RETR and STOR. */
-static bool transfer_file(struct session *session, enum unftp_result command, const char *line,
-                          size_t len)
+static void transfer_file(struct session *session, const struct control_line *line)
 {
     char area[NAME_MAX + 2];
-    const char *path = path_of(line, len, area);
+    const char *path = path_of(line, area);
 
     if (path == NULL)
-        return answer(session, UNFTP_CODE_FILE_ERROR, "No file");
-    return command == UNFTP_STOR ? store(session, path) : retrieve(session, path);
+        answer(session, UNFTP_CODE_FILE_ERROR, "No file");
+    else if (line->event == UNFTP_STOR)
+        store(session, path);
+    else
+        retrieve(session, path);
 }
 
 /* Writes the line of a file in LIST, with no user and no group, or in NLST. One whose name can't be
@@ -241,154 +230,81 @@ static bool write_names(FILE *lines, DIR *folder, bool is_long)
 }
 
 /* LIST and NLST. */
-static bool transfer_names(struct session *session, bool is_long)
+static void transfer_names(struct session *session, bool is_long)
 {
     FILE *lines = tmpfile();
     DIR *folder = opendir(".");
-    bool is_open, is_whole = false;
 
-    if (lines != NULL && folder != NULL)
-        is_whole = write_names(lines, folder, is_long) && fflush(lines) == 0
-            && lseek(fileno(lines), 0, SEEK_SET) == 0;
-    is_open = is_whole ? send_file(session, fileno(lines))
-                       : answer(session, UNFTP_CODE_LOCAL_ERROR, "The folder can't be read");
+    if (lines != NULL && folder != NULL && write_names(lines, folder, is_long)
+        && fflush(lines) == 0 && lseek(fileno(lines), 0, SEEK_SET) == 0)
+        send_file(session, fileno(lines));
+    else
+        answer(session, UNFTP_CODE_LOCAL_ERROR, "The folder can't be read");
     if (folder != NULL)
         closedir(folder);
     if (lines != NULL)
         fclose(lines);
-    return is_open;
 }
 
-/* Sends the usual reply to an event; false where the session is over. */
-static bool answer_usual(struct session *session, enum unftp_result event, const char *value,
-                         size_t value_len)
-{
-    char reply[USUAL_ROOM];
-    size_t len;
-
-    return unftp_usual_reply(event, value, value_len, reply, sizeof reply, &len) == UNFTP_DONE
-        && send_bytes(session->control, reply, len) && event != UNFTP_QUIT
-        && event != UNFTP_OUT_OF_MEMORY;
-}
-
-/* Answers an event of somebody who has logged in, or that needs no login; false where the session
-   is over. */
-static bool answer_event(struct session *session, enum unftp_result event, const char *line,
-                         const char *value, const struct unftp_line *found)
+/* Answers a line of somebody who has logged in, or that needs no login. */
+static void answer_event(struct session *session, const struct control_line *line)
 {
     char text[DATA_TEXT_ROOM];
-    uint32_t code = data_port_answer(&session->data, event, line, found->used, text);
+    uint32_t code = data_port_answer(&session->data, line->event, line->bytes, line->len, text);
 
-    if (code != 0)
-        return answer(session, code, text);
-    switch (event) {
-    case UNFTP_TYPE: return answer(session, UNFTP_CODE_COMMAND_OKAY, "OK");
-    case UNFTP_PWD: return answer(session, UNFTP_CODE_DIR_CREATED, "\"/\" is the directory");
-    case UNFTP_RETR: case UNFTP_STOR: return transfer_file(session, event, line, found->used);
-    case UNFTP_LIST: return transfer_names(session, true);
-    case UNFTP_NLST: return transfer_names(session, false);
-    default: return answer_usual(session, event, value, found->value_len);
+    if (code != 0) {
+        answer(session, code, text);
+        return;
+    }
+    switch (line->event) {
+    case UNFTP_TYPE: answer(session, UNFTP_CODE_COMMAND_OKAY, "OK"); break;
+    case UNFTP_PWD: answer(session, UNFTP_CODE_DIR_CREATED, "\"/\" is the directory"); break;
+    case UNFTP_RETR: case UNFTP_STOR: transfer_file(session, line); break;
+    case UNFTP_LIST: transfer_names(session, true); break;
+    case UNFTP_NLST: transfer_names(session, false); break;
+    default: control_usual_reply(&session->control, line);
     }
 }
 
 /* Whether the accounts have this name with this password. */
-static bool is_account(const struct session *session, const char *password, size_t len)
+static bool is_account(const struct control_login *login, const struct control_line *line)
 {
-    return session->name_len == 4 && memcmp(session->name, "anna", 4) == 0 && len == 6
-        && memcmp(password, "secret", 6) == 0;
+    return login->name_len == 4 && memcmp(login->name, "anna", 4) == 0 && line->value_len == 6
+        && memcmp(line->value, "secret", 6) == 0;
 }
 
-/* Sends the reply at a step of a login; false where the session is over. */
-static bool answer_step(struct session *session, enum unftp_login_step step, bool is_right)
-{
-    char reply[USUAL_ROOM];
-    size_t len;
-
-    unftp_login_reply(step, is_right, reply, sizeof reply, &len);
-    return send_bytes(session->control, reply, len);
-}
-
-/* Answers a line; false where the session is over. */
-static bool answer_line(struct session *session, enum unftp_result event, const char *line,
-                        const char *value, const struct unftp_line *found)
-{
-    enum unftp_login_step step = unftp_login_event(&session->login, event);
-    bool is_right = false;
-
-    switch (step) {
-    case UNFTP_LOGIN_PASS_ON: return answer_event(session, event, line, value, found);
-    case UNFTP_LOGIN_NEED_PASSWORD:
-        session->name_len = found->value_len;
-        memcpy(session->name, value, found->value_len);
-        break;
-    case UNFTP_LOGIN_ASK_ACCOUNTS:
-        is_right = is_account(session, value, found->value_len);
-        unftp_login_answer(&session->login, is_right);
-        break;
-    case UNFTP_LOGIN_NEED_NAME: case UNFTP_LOGIN_NEED_LOGIN: break;
-    }
-    return answer_step(session, step, is_right);
-}
-
-/* Logs what may be shown of a line. */
-static void log_line(const struct session *session, enum unftp_result command, const char *line,
-                     size_t line_len)
-{
-    char shown[LOG_ROOM];
-    size_t len;
-    uint32_t hides;
-
-    if (unftp_log_line((uint32_t)command, line, line_len, shown, sizeof shown, &len, &hides)
-        == UNFTP_DONE)
-        fprintf(stderr, "%s: %.*s\n", session->peer, (int)len, shown);
-    else
-        fprintf(stderr, "%s: a line\n", session->peer);
-}
-
-/* Answers the complete lines of the pending bytes; false where the session is over. */
+/* Answers the complete lines; false where the client doesn't take the replies. */
 static bool answer_lines(struct session *session)
 {
-    char area[AREA_ROOM];
-    struct unftp_line line;
-    bool is_open = true;
+    struct control *control = &session->control;
+    struct control_login *login = &session->login;
+    struct control_line line;
 
-    while (is_open) {
-        const char *bytes = session->bytes + session->start;
-        enum unftp_result result = unftp_next(&session->connection, bytes,
-                                              session->end - session->start, area, sizeof area,
-                                              &line);
+    while (control_next_line(control, &line)) {
+        enum unftp_login_step step = control_log_in(control, login, &line);
 
-        if (result == UNFTP_MORE) {
-            session->start += line.used;
-            return true;
-        }
-        log_line(session, result, bytes, line.used);
-        is_open = answer_line(session, result, bytes, unftp_value(&line, bytes, area), &line);
-        session->start += line.used; /* after the answer: the value may be in these bytes */
+        fprintf(stderr, "%s: %s\n", session->peer, control_shown(&line));
+        if (step == UNFTP_LOGIN_ASK_ACCOUNTS)
+            control_answer_login(control, login, is_account(login, &line));
+        else if (step == UNFTP_LOGIN_PASS_ON)
+            answer_event(session, &line);
     }
-    return false;
+    return control_pending(&control->to) == 0;
 }
 
 /* Serves a client up to QUIT, or its end. */
 static void serve(int control, const char *peer)
 {
-    struct session session = {.control = control, .peer = peer,
-                              .connection = {.limit = LINE_LIMIT}};
-    bool is_open = data_port_start(&session.data, control);
+    struct session session = {.peer = peer};
 
     limit_waiting(control);
-    is_open = is_open && answer(&session, UNFTP_CODE_SERVICE_READY, "Ready");
-    while (is_open) {
-        ssize_t got;
-
-        session.end -= session.start;
-        memmove(session.bytes, session.bytes + session.start, session.end);
-        session.start = 0;
-        got = read(control, session.bytes + session.end, sizeof session.bytes - session.end);
-        if (got > 0)
-            session.end += (size_t)got;
-        is_open = got > 0 && answer_lines(&session);
-    }
+    if (!control_start(&session.control, control) || !data_port_start(&session.data, control))
+        return;
+    answer(&session, UNFTP_CODE_SERVICE_READY, "Ready");
+    while (answer_lines(&session) && !session.control.is_ending
+           && control_receive(&session.control))
+        continue;
+    control_finish(&session.control);
 }
 
 /* Listens at an address with a port, where the last colon is between both; or -1. */

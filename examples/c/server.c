@@ -15,47 +15,23 @@
  */
 #define _POSIX_C_SOURCE 200809L
 
-#include <unftp_control.h>
+/* what is to be sent has room for two of the longest replies */
+#define CONTROL_ROOM 32768
+
+#include "control_connection.h"
 
 #include <arpa/inet.h>
-#include <errno.h>
-#include <fcntl.h>
-#include <netinet/in.h>
-#include <netinet/tcp.h>
-#include <poll.h>
 #include <signal.h>
-#include <stdbool.h>
-#include <stdint.h>
 #include <stdio.h>
 #include <stdlib.h>
-#include <string.h>
 #include <sys/select.h>
-#include <sys/socket.h>
-#include <sys/types.h>
 #include <sys/wait.h>
 #include <time.h>
-#include <unistd.h>
 
 enum {
-    LINE_LIMIT = 4096,
-    READ_MOST = 4096,
-
-    /* at UNFTP_MORE fewer bytes than the limit are pending, so a whole read always has room */
-    PENDING_ROOM = LINE_LIMIT + READ_MOST,
-
-    /* what unftp_next needs at most for a line of n bytes is 3 n */
-    AREA_ROOM = 3 * LINE_LIMIT,
-
-    /* the longest text has a name and a value of one line, which have AREA_ROOM bytes at most; its
-       reply has a code, a space and CR LF beside it */
-    TEXT_ROOM = sizeof "SITE MD5 : not implemented" + AREA_ROOM,
-    REPLY_ROOM = TEXT_ROOM + 6,
-
-    /* what unftp_usual_reply and unftp_login_reply need at most */
-    USUAL_ROOM = 64,
-
-    /* how many bytes a client may send once its session has ended */
-    DROPPED_MOST = 1024 * 1024,
+    /* the longest text has a name and a value of one line, which have at most three bytes for each
+       of the line; its reply has a code, a space and CR LF beside it */
+    TEXT_ROOM = sizeof "SITE MD5 : not implemented" + 3 * CONTROL_LINE_LIMIT,
 
     /* the greatest number that an option may have: as milliseconds it is an int */
     NUMBER_MOST = 1000 * 1000,
@@ -79,27 +55,13 @@ struct options {
     long idle;
 };
 
-/* A client, and the bytes that it sent: those from start to end are pending. */
 struct client {
-    int socket;
+    struct control control;
+    struct control_login login;
     int stopping; /* a pipe that is at its end once the server stops; -1 at the session's end */
     int64_t deadline;
     bool is_late; /* wait_for has looked once since the deadline has come */
     const struct options *options;
-    struct unftp_connection connection;
-    struct unftp_login login;
-    char name[LINE_LIMIT]; /* the last one that was given */
-    size_t name_len;
-    char bytes[PENDING_ROOM];
-    size_t start;
-    size_t end;
-};
-
-/* A command. Its value may be in the client's bytes, so it lasts until these are dropped. */
-struct command {
-    const char *bytes; /* the pending bytes that it was taken from */
-    struct unftp_line line;
-    char area[AREA_ROOM];
 };
 
 struct text {
@@ -108,7 +70,7 @@ struct text {
 };
 
 /* How waiting for a client ends. */
-enum event { READY, GONE, LATE, STOPPED };
+enum event { EXCHANGED, LATE, STOPPED };
 
 static void fail(const char *what)
 {
@@ -132,17 +94,12 @@ static void allow(struct client *client, long seconds)
     client->is_late = false;
 }
 
-/* Whether a call on a socket that failed may be made again. */
-static bool is_passing(int error)
+/* Waits until the client's socket is ready, and then receives and sends; or until the server stops
+   or the deadline has come. Once it has come this looks once more, for what came in time while the
+   process did not run. */
+static enum event exchange(struct client *client)
 {
-    return error == EINTR || error == EAGAIN || error == EWOULDBLOCK;
-}
-
-/* Waits until the client's socket is ready, the server stops, or the deadline has come. Once it has
-   come this looks once more, for what came in time while the process did not run. */
-static enum event wait_for(struct client *client, short events)
-{
-    struct pollfd polled[] = {{.fd = client->socket, .events = events},
+    struct pollfd polled[] = {control_polled(&client->control),
                               {.fd = client->stopping, .events = POLLIN}};
 
     for (;;) {
@@ -155,72 +112,13 @@ static enum event wait_for(struct client *client, short events)
         count = poll(polled, 2, left > 0 ? (int)left : 0);
         if (count < 0 && errno != EINTR)
             fail("server: poll");
-        if (count > 0)
-            return polled[1].revents != 0 ? STOPPED : READY;
-    }
-}
-
-/* Sends all of these bytes; false where that fails. */
-static bool send_bytes(struct client *client, const char *bytes, size_t len)
-{
-    while (len > 0) {
-        ssize_t sent = write(client->socket, bytes, len);
-        if (sent >= 0) {
-            bytes += sent;
-            len -= (size_t)sent;
-        } else if (!is_passing(errno) || wait_for(client, POLLOUT) != READY) {
-            return false;
+        if (count > 0 && polled[1].revents != 0)
+            return STOPPED;
+        if (count > 0) {
+            control_exchange(&client->control, polled[0].revents);
+            return EXCHANGED;
         }
     }
-    return true;
-}
-
-/* Waits for bytes, and reads them. */
-static enum event read_bytes(struct client *client, char *bytes, size_t room, size_t *len)
-{
-    for (;;) {
-        enum event event = wait_for(client, POLLIN);
-        ssize_t got;
-
-        if (event != READY)
-            return event;
-        got = read(client->socket, bytes, room);
-        if (got > 0) {
-            *len = (size_t)got;
-            return READY;
-        }
-        if (got == 0 || !is_passing(errno))
-            return GONE;
-    }
-}
-
-/* Ends the session with a reply that takes no memory. */
-static bool end_session(struct client *client, const char *reply)
-{
-    client->stopping = -1;
-    allow(client, client->options->dropping);
-    send_bytes(client, reply, strlen(reply));
-    return false;
-}
-
-/* Sends the reply with this text; false where the session is over. */
-static bool send_reply(struct client *client, enum unftp_code code, const char *text, size_t len)
-{
-    char reply[REPLY_ROOM];
-    size_t reply_len;
-    enum unftp_result result = unftp_reply(code, text, len, reply, sizeof reply, &reply_len);
-
-    if (result == UNFTP_DONE)
-        return send_bytes(client, reply, reply_len);
-    /* the codes are those of this program, and its texts with line feeds are short */
-    fprintf(stderr, "server: unftp_reply: %s\n", unftp_result_text(result));
-    abort();
-}
-
-/* Sends the reply with this text of the program's; false where the session is over. */
-static bool send_text(struct client *client, enum unftp_code code, const char *text)
-{
-    return send_reply(client, code, text, strlen(text));
 }
 
 static void append(struct text *text, const char *bytes, size_t len)
@@ -234,96 +132,58 @@ static void append_string(struct text *text, const char *string)
     append(text, string, strlen(string));
 }
 
-/* The value of a command, of command->line.value_len bytes. */
-static const char *value_of(const struct command *command)
-{
-    return unftp_value(&command->line, command->bytes, command->area);
-}
-
-/* Appends what the command is: only SITE and another verb have a name in the area. */
-static void append_name(struct text *text, enum unftp_result result, const struct command *command)
-{
-    if (result != UNFTP_OTHER)
-        append_string(text, unftp_result_text(result));
-    if (result == UNFTP_SITE)
-        append_string(text, " ");
-    append(text, command->area, command->line.name_len);
-}
-
-/* Answers 502 with what the command says. */
-static bool answer_not_implemented(struct client *client, enum unftp_result result,
-                                   const struct command *command)
+/* Answers 502 with what the command says: only SITE and another verb have a name. */
+static bool answer_not_implemented(struct control *control, const struct control_line *line)
 {
     struct text text;
 
     text.len = 0;
-    append_name(&text, result, command);
-    if (command->line.value_len > 0) {
+    if (line->event != UNFTP_OTHER)
+        append_string(&text, unftp_result_text(line->event));
+    if (line->event == UNFTP_SITE)
         append_string(&text, " ");
-        append(&text, value_of(command), command->line.value_len);
+    append(&text, line->name, line->name_len);
+    if (line->value_len > 0) {
+        append_string(&text, " ");
+        append(&text, line->value, line->value_len);
     }
     append_string(&text, ": not implemented");
-    return send_reply(client, UNFTP_CODE_COMMAND_NOT_IMPLEMENTED, text.bytes, text.len);
+    return control_reply(control, UNFTP_CODE_COMMAND_NOT_IMPLEMENTED, text.bytes, text.len);
 }
 
-static bool answer_site(struct client *client, const struct command *command)
+static bool answer_site(struct control *control, const struct control_line *line)
 {
     static const char echo[] = "ECHO";
-    size_t name_len = command->line.name_len;
 
-    if (name_len == sizeof echo - 1 && memcmp(command->area, echo, name_len) == 0)
-        return send_reply(client, UNFTP_CODE_COMMAND_OKAY, value_of(command),
-                          command->line.value_len);
-    return answer_not_implemented(client, UNFTP_SITE, command);
+    if (line->name_len == sizeof echo - 1 && memcmp(line->name, echo, line->name_len) == 0)
+        return control_reply(control, UNFTP_CODE_COMMAND_OKAY, line->value, line->value_len);
+    return answer_not_implemented(control, line);
 }
 
-/* Sends the usual reply to an event whose value it doesn't depend on; false where the session is
-   over. */
-static bool answer_usual(struct client *client, enum unftp_result result)
-{
-    char reply[USUAL_ROOM];
-    size_t len;
-
-    if (unftp_usual_reply(result, "", 0, reply, sizeof reply, &len) == UNFTP_DONE)
-        return send_bytes(client, reply, len);
-    /* the area has room for a line within the limit, and the connection is kept */
-    fprintf(stderr, "server: unftp_next: %s\n", unftp_result_text(result));
-    abort();
-}
-
-/* Answers what is no command; false where the session is over. Where memory has run out, the line
-   is not taken, and would be answered again. */
-static bool answer_refusal(struct client *client, enum unftp_result result)
-{
-    return answer_usual(client, result) && result != UNFTP_OUT_OF_MEMORY;
-}
-
-/* Answers a line as if there were no login; false where the session is over. A password is in no
-   reply. Without a default, a compiler names the commands that are forgotten. */
-static bool answer_command(struct client *client, enum unftp_result result,
-                           const struct command *command)
+/* Answers a line as if there were no login; false where it has no reply. A password is in no reply.
+   Without a default, a compiler names the commands that are forgotten. */
+static bool answer_command(struct control *control, const struct control_line *line)
 {
     static const char features[] = "Features:\n UTF8\nEnd";
     static const char help[] =
         "Commands:\n ACCT FEAT HELP NOOP PASS PWD\n QUIT SITE SYST TYPE USER\nEnd";
     static const char directory[] = "\"/\" is the current directory";
 
-    switch (result) {
-    case UNFTP_ACCT: case UNFTP_SYST: case UNFTP_NOOP: return answer_usual(client, result);
-    case UNFTP_TYPE: return send_text(client, UNFTP_CODE_COMMAND_OKAY, "OK");
-    case UNFTP_FEAT: return send_text(client, UNFTP_CODE_SYSTEM_STATUS, features);
-    case UNFTP_HELP: return send_text(client, UNFTP_CODE_HELP_MESSAGE, help);
-    case UNFTP_PWD: return send_text(client, UNFTP_CODE_DIR_CREATED, directory);
-    case UNFTP_SITE: return answer_site(client, command);
-    case UNFTP_QUIT: answer_usual(client, result); return false;
+    switch (line->event) {
+    case UNFTP_TYPE: return control_say(control, UNFTP_CODE_COMMAND_OKAY, "OK");
+    case UNFTP_FEAT: return control_say(control, UNFTP_CODE_SYSTEM_STATUS, features);
+    case UNFTP_HELP: return control_say(control, UNFTP_CODE_HELP_MESSAGE, help);
+    case UNFTP_PWD: return control_say(control, UNFTP_CODE_DIR_CREATED, directory);
+    case UNFTP_SITE: return answer_site(control, line);
     case UNFTP_USER: case UNFTP_PASS: case UNFTP_STAT: case UNFTP_STRU: case UNFTP_MODE:
     case UNFTP_PASV: case UNFTP_EPSV: case UNFTP_PORT: case UNFTP_RETR: case UNFTP_STOR:
-    case UNFTP_APPE: case UNFTP_LIST: case UNFTP_NLST: case UNFTP_MLST: case UNFTP_MLSD: case UNFTP_CWD: case UNFTP_CDUP:
-    case UNFTP_OPTS: case UNFTP_DELE: case UNFTP_RMD: case UNFTP_MKD: case UNFTP_ALLO:
-    case UNFTP_ABOR: case UNFTP_STOU: case UNFTP_RNFR: case UNFTP_RNTO: case UNFTP_AUTH:
-    case UNFTP_CCC: case UNFTP_PBSZ: case UNFTP_PROT: case UNFTP_SIZE: case UNFTP_REST:
-    case UNFTP_MDTM: case UNFTP_MD5: case UNFTP_OTHER:
-        return answer_not_implemented(client, result, command);
+    case UNFTP_APPE: case UNFTP_LIST: case UNFTP_NLST: case UNFTP_MLST: case UNFTP_MLSD:
+    case UNFTP_CWD: case UNFTP_CDUP: case UNFTP_OPTS: case UNFTP_DELE: case UNFTP_RMD:
+    case UNFTP_MKD: case UNFTP_ALLO: case UNFTP_ABOR: case UNFTP_STOU: case UNFTP_RNFR:
+    case UNFTP_RNTO: case UNFTP_AUTH: case UNFTP_CCC: case UNFTP_PBSZ: case UNFTP_PROT:
+    case UNFTP_SIZE: case UNFTP_REST: case UNFTP_MDTM: case UNFTP_MD5: case UNFTP_OTHER:
+        return answer_not_implemented(control, line);
+    case UNFTP_ACCT: case UNFTP_SYST: case UNFTP_NOOP: case UNFTP_QUIT:
     case UNFTP_DONE: case UNFTP_MORE: case UNFTP_INVALID_COMMAND: case UNFTP_INVALID_UTF8:
     case UNFTP_INVALID_EOL: case UNFTP_LINE_TOO_LONG: case UNFTP_OUT_OF_MEMORY:
     case UNFTP_NO_ROOM: case UNFTP_NO_LINE: case UNFTP_MALFORMED: case UNFTP_UNKNOWN_CODE:
@@ -331,152 +191,88 @@ static bool answer_command(struct client *client, enum unftp_result result,
     case UNFTP_REPLY_TOO_LONG:
         break;
     }
-    return answer_refusal(client, result);
+    return control_usual_reply(control, line);
 }
 
 /* Whether this is the password of the name. A server of yours asks its accounts. */
-static bool is_account(const struct client *client, const char *password, size_t len)
+static bool is_account(const struct control_login *login, const struct control_line *line)
 {
     static const char name[] = "anna", secret[] = "secret";
 
-    return client->name_len == sizeof name - 1 && memcmp(client->name, name, sizeof name - 1) == 0
-        && len == sizeof secret - 1 && memcmp(password, secret, sizeof secret - 1) == 0;
+    return login->name_len == sizeof name - 1 && memcmp(login->name, name, sizeof name - 1) == 0
+        && line->value_len == sizeof secret - 1
+        && memcmp(line->value, secret, sizeof secret - 1) == 0;
 }
 
-/* Sends the reply at a step of a login; false where the session is over. */
-static bool answer_step(struct client *client, enum unftp_login_step step, bool is_right)
+/* Answers a line; false where it has no reply. What needs a login is answered 530 before one. */
+static bool answer_line(struct client *client, const struct control_line *line)
 {
-    char reply[USUAL_ROOM];
-    size_t len;
+    struct control *control = &client->control;
+    struct control_login *login = &client->login;
 
-    unftp_login_reply(step, is_right, reply, sizeof reply, &len);
-    return send_bytes(client, reply, len);
-}
-
-/* Answers a line; false where the session is over. What needs a login is answered 530 before one. */
-static bool answer_line(struct client *client, enum unftp_result result,
-                        const struct command *command)
-{
-    enum unftp_login_step step = unftp_login_event(&client->login, result);
-    bool is_right = false;
-
-    switch (step) {
-    case UNFTP_LOGIN_PASS_ON: return answer_command(client, result, command);
-    case UNFTP_LOGIN_NEED_PASSWORD:
-        client->name_len = command->line.value_len;
-        memcpy(client->name, value_of(command), client->name_len);
-        break;
+    switch (control_log_in(control, login, line)) {
+    case UNFTP_LOGIN_PASS_ON: return answer_command(control, line);
     case UNFTP_LOGIN_ASK_ACCOUNTS:
-        is_right = is_account(client, value_of(command), command->line.value_len);
-        unftp_login_answer(&client->login, is_right);
-        break;
-    case UNFTP_LOGIN_NEED_NAME: case UNFTP_LOGIN_NEED_LOGIN: break;
+        return control_answer_login(control, login, is_account(login, line));
+    case UNFTP_LOGIN_NEED_PASSWORD: case UNFTP_LOGIN_NEED_NAME: case UNFTP_LOGIN_NEED_LOGIN: break;
     }
-    return answer_step(client, step, is_right);
+    return true;
 }
 
-/* Takes the next line of the pending bytes: what unftp_next returns. */
-static enum unftp_result take_line(struct client *client, struct command *command)
+/* Answers the complete lines, while the client takes the replies. */
+static void answer_lines(struct client *client)
 {
-    command->bytes = client->bytes + client->start;
-    return unftp_next(&client->connection, command->bytes, client->end - client->start,
-                      command->area, sizeof command->area, &command->line);
-}
+    struct control_line line;
 
-/* Answers the complete lines of the pending bytes; false where the session is over. */
-static bool answer_lines(struct client *client)
-{
-    struct command command;
-    enum unftp_result result;
-    bool is_open = true;
-
-    do {
-        result = take_line(client, &command);
-        if (result != UNFTP_MORE) {
-            allow(client, client->options->idle);
-            is_open = answer_line(client, result, &command);
+    while (control_next_line(&client->control, &line)) {
+        allow(client, client->options->idle);
+        if (!answer_line(client, &line)) {
+            /* the codes are those of this program, and there is room for a line and its reply */
+            fprintf(stderr, "server: %s: no reply\n", unftp_result_text(line.event));
+            abort();
         }
-        client->start += command.line.used; /* after the answer: the value may be in these bytes */
-    } while (is_open && result != UNFTP_MORE);
-    return is_open;
-}
-
-/* Puts what comes after the pending bytes, which are moved to the front; false where the session is
-   over. */
-static bool receive(struct client *client)
-{
-    size_t got;
-
-    client->end -= client->start;
-    memmove(client->bytes, client->bytes + client->start, client->end);
-    client->start = 0;
-    switch (read_bytes(client, client->bytes + client->end, sizeof client->bytes - client->end,
-                       &got)) {
-    case READY:
-        client->end += got;
-        return true;
-    case GONE:
-        return false;
-    case LATE:
-        return end_session(client, "421 Timeout\r\n");
-    case STOPPED:
-        return end_session(client, "421 Service is stopping\r\n");
     }
-    return false;
 }
 
-/* Closes the connection, once the client has closed it or has had its time. A socket that is closed
-   with bytes unread resets the connection, and then the last reply may be lost. */
+static void end_session(struct client *client, const char *text)
+{
+    control_say(&client->control, UNFTP_CODE_SERVICE_NOT_AVAILABLE, text);
+    client->control.is_ending = true;
+}
+
+/* Goes on once the client is ready, or ends the session. */
+static void go_on(struct client *client)
+{
+    switch (exchange(client)) {
+    case EXCHANGED: answer_lines(client); break;
+    case LATE: end_session(client, "Timeout"); break;
+    case STOPPED: end_session(client, "Service is stopping"); break;
+    }
+}
+
+/* Closes the connection, once the client has closed it or has had its time. */
 static void finish(struct client *client)
 {
-    char bytes[READ_MOST];
-    size_t dropped = 0, got;
-
-    shutdown(client->socket, SHUT_WR);
+    client->control.is_ending = true;
     client->stopping = -1;
     allow(client, client->options->dropping);
-    while (dropped < DROPPED_MOST && read_bytes(client, bytes, sizeof bytes, &got) == READY)
-        dropped += got;
-    close(client->socket);
+    while (!control_is_over(&client->control) && exchange(client) == EXCHANGED)
+        continue;
+    close(client->control.socket);
 }
 
-static void set_option(int socket, int level, int option)
-{
-    int on = 1;
-
-    if (setsockopt(socket, level, option, &on, sizeof on) < 0)
-        fail("server: setsockopt");
-}
-
-static bool set_nonblocking(int socket)
-{
-    int flags = fcntl(socket, F_GETFL);
-
-    return flags >= 0 && fcntl(socket, F_SETFL, flags | O_NONBLOCK) >= 0;
-}
-
-/* Urgent bytes are to be read where they were sent: the line feed of an ABOR may be one, and would
-   be missing (RFC 959, section 4.1.3). Each reply is sent at once. No call waits but wait_for. */
-static void prepare(int socket)
-{
-    set_option(socket, SOL_SOCKET, SO_OOBINLINE);
-    set_option(socket, IPPROTO_TCP, TCP_NODELAY);
-    if (!set_nonblocking(socket))
-        fail("server: fcntl");
-}
-
-/* Serves a client from the greeting to the end of the session. */
+/* Serves a client from the greeting to the end of the session. No call waits but exchange. */
 static void serve(int socket, int stopping, const struct options *options)
 {
-    struct client client = {.socket = socket, .stopping = stopping, .options = options,
-                            .connection = {.limit = LINE_LIMIT}};
-    bool open;
+    struct client client = {.stopping = stopping, .options = options};
 
-    prepare(socket);
+    if (!control_start(&client.control, socket) || !control_set_nonblocking(socket))
+        fail("server: setsockopt");
     allow(&client, options->idle);
-    open = send_text(&client, UNFTP_CODE_SERVICE_READY, "Ready");
-    while (open && receive(&client))
-        open = answer_lines(&client);
+    control_say(&client.control, UNFTP_CODE_SERVICE_READY, "Ready");
+    answer_lines(&client);
+    while (!client.control.is_ending && !control_is_over(&client.control))
+        go_on(&client);
     finish(&client);
 }
 
@@ -595,8 +391,8 @@ static void report(struct server *server, const char *what)
    Where a call fails, the client is gone, and there is nobody to tell. */
 static void refuse(int socket, const char *reply)
 {
-    char dropped[READ_MOST];
-    bool is_told = set_nonblocking(socket) && write(socket, reply, strlen(reply)) >= 0
+    char dropped[CONTROL_ROOM];
+    bool is_told = control_set_nonblocking(socket) && write(socket, reply, strlen(reply)) >= 0
         && shutdown(socket, SHUT_WR) == 0 && read(socket, dropped, sizeof dropped) >= 0;
 
     (void)is_told;
@@ -647,7 +443,7 @@ static void accept_client(struct server *server)
 {
     int socket = accept(server->listener, NULL, NULL);
 
-    if (socket < 0 && (is_passing(errno) || errno == ECONNABORTED))
+    if (socket < 0 && (control_is_passing(errno) || errno == ECONNABORTED))
         return;
     if (socket < 0) {
         pause_accepting(server);
@@ -677,8 +473,9 @@ static void start_listening(struct server *server)
         errno = EMFILE;
     if (server->listener < 0 || server->listener >= FD_SETSIZE)
         fail("server: socket");
-    set_option(server->listener, SOL_SOCKET, SO_REUSEADDR);
-    if (!set_nonblocking(server->listener))
+    if (!control_set_option(server->listener, SOL_SOCKET, SO_REUSEADDR))
+        fail("server: setsockopt");
+    if (!control_set_nonblocking(server->listener))
         fail("server: fcntl");
     if (bind(server->listener, &address->any, len) < 0)
         fail("server: bind");
