@@ -11,29 +11,20 @@
  */
 #define _POSIX_C_SOURCE 200809L
 
-#include <unftp_control.h>
+/* the longest reply that is taken */
+#define CONTROL_ROOM 16384
 
-#include <errno.h>
+#include "control_connection.h"
+
 #include <inttypes.h>
 #include <netdb.h>
-#include <poll.h>
 #include <signal.h>
-#include <stdbool.h>
-#include <stdint.h>
 #include <stdio.h>
 #include <stdlib.h>
-#include <string.h>
-#include <sys/socket.h>
 #include <sys/time.h>
-#include <sys/types.h>
 #include <time.h>
-#include <unistd.h>
 
 enum {
-    LINE_ROOM = 4096,
-
-    /* the longest reply that is taken */
-    REPLY_ROOM = 16384,
     DATA_ROOM = 65536,
 
     /* an address with its scope, and a number */
@@ -44,15 +35,12 @@ enum {
     PATIENCE = 60
 };
 
-/* A control connection, and the bytes that came. The last reply is at their start. */
+/* A control connection, with the last reply at the front of what has come. */
 struct session {
-    int socket;
+    struct control control;
     struct unftp_client client;
     uint64_t place; /* of the last line */
-    struct unftp_reply_search search;
     struct unftp_found_reply reply;
-    char bytes[REPLY_ROOM];
-    size_t len;
 };
 
 struct progress {
@@ -77,9 +65,11 @@ static void fail_call(const char *what)
 /* Shows the first line of the server's reply, but nothing that a terminal might obey. */
 static void fail_reply(const struct session *session, const char *what)
 {
+    const char *bytes = control_front(&session->control.from);
+
     fprintf(stderr, "get: %s: ", what);
-    for (size_t at = 0; at < session->reply.used && session->bytes[at] != '\r'; at++) {
-        char byte = session->bytes[at];
+    for (size_t at = 0; at < session->reply.used && bytes[at] != '\r'; at++) {
+        char byte = bytes[at];
         fputc(byte >= ' ' && byte <= '~' ? byte : '?', stderr);
     }
     fputc('\n', stderr);
@@ -112,41 +102,25 @@ static int connect_to(const char *host, const char *port)
     return opened;
 }
 
-static size_t receive(int from, char *bytes, size_t room, const char *what)
+/* Waits for what the server sends. */
+static void receive(struct control *control)
 {
-    ssize_t got;
-
-    do {
-        got = recv(from, bytes, room, 0);
-    } while (got < 0 && errno == EINTR);
-    if (got < 0)
-        fail_call(what);
-    return (size_t)got;
-}
-
-static void drop_reply(struct session *session)
-{
-    session->len -= session->reply.used;
-    memmove(session->bytes, session->bytes + session->reply.used, session->len);
-    session->reply.used = 0;
+    errno = 0;
+    if (control_receive(control))
+        return;
+    if (errno == 0)
+        fail("the server has closed the control connection");
+    fail_call("control connection");
 }
 
 /* Takes the next reply, once it is complete, and returns what it is to. */
 static enum unftp_to take_reply(struct session *session, uint64_t *place)
 {
     enum unftp_result result;
-    size_t got;
 
-    drop_reply(session);
-    while ((result = unftp_next_reply(&session->search, session->bytes, session->len,
-                                      &session->reply))
-           == UNFTP_MORE) {
-        got = receive(session->socket, session->bytes + session->len,
-                      sizeof session->bytes - session->len, "control connection");
-        if (got == 0)
-            fail("the server has closed the control connection");
-        session->len += got;
-    }
+    session->reply.used = 0;
+    while ((result = control_next_reply(&session->control, &session->reply)) == UNFTP_MORE)
+        receive(&session->control);
     if (result != UNFTP_DONE)
         fail(unftp_result_text(result));
     return unftp_client_reply(&session->client, session->reply.code, place);
@@ -178,11 +152,12 @@ static uint32_t final_code(struct session *session, enum unftp_to wanted)
    refused, since it would be taken for the one to the next line. */
 static bool is_closing(struct session *session)
 {
-    struct pollfd polled = {.fd = session->socket, .events = POLLIN};
+    struct control *control = &session->control;
+    struct pollfd polled = {.fd = control->socket, .events = POLLIN};
     uint64_t place;
 
-    drop_reply(session);
-    if (session->len == 0 && poll(&polled, 1, 0) <= 0)
+    control_drop_used(control);
+    if (control_pending(&control->from) == 0 && poll(&polled, 1, 0) <= 0)
         return false;
     if (take_reply(session, &place) != UNFTP_TO_NOTHING
         || session->reply.code != UNFTP_CODE_SERVICE_NOT_AVAILABLE)
@@ -192,10 +167,10 @@ static bool is_closing(struct session *session)
 
 static void send_line(struct session *session, const char *verb, const char *parameter)
 {
-    char line[LINE_ROOM];
+    char line[CONTROL_LINE_LIMIT];
     int written = snprintf(line, sizeof line, "%s%s%s\r\n", verb, *parameter == '\0' ? "" : " ",
                            parameter);
-    size_t len = (size_t)written, sent = 0;
+    size_t len = (size_t)written;
 
     if (is_closing(session))
         fail_reply(session, "the server ends the session");
@@ -203,12 +178,8 @@ static void send_line(struct session *session, const char *verb, const char *par
         fail("a line is too long");
     if (unftp_client_line(&session->client, line, len, &session->place) != UNFTP_DONE)
         fail("what is sent is not one line");
-    while (sent < len) {
-        ssize_t count = send(session->socket, line + sent, len - sent, 0);
-        if (count < 0 && errno != EINTR)
-            fail_call("control connection");
-        sent += count < 0 ? 0 : (size_t)count;
-    }
+    if (!control_put(&session->control, line, len) || !control_send(&session->control))
+        fail_call("control connection");
 }
 
 /* Sends a command, and returns the code of its final reply. */
@@ -248,14 +219,16 @@ static size_t read_number(const char *text, size_t len, uint64_t *number)
 static void ask_size(struct session *session, const char *path, struct progress *progress)
 {
     const size_t before = strlen("213 "), after = strlen("\r\n");
+    const char *bytes;
     size_t used, digits;
 
     if (ask(session, "SIZE", path) != UNFTP_CODE_FILE_STATUS)
         return;
+    bytes = control_front(&session->control.from);
     used = session->reply.used;
-    if (used <= before + after || session->bytes[before - 1] != ' ')
+    if (used <= before + after || bytes[before - 1] != ' ')
         return;
-    digits = read_number(session->bytes + before, used - before - after, &progress->size);
+    digits = read_number(bytes + before, used - before - after, &progress->size);
     progress->has_size = digits == used - before - after;
 }
 
@@ -264,8 +237,9 @@ static unsigned port_in(const struct session *session)
 {
     char host[1];
     struct unftp_address address;
-    enum unftp_result result = unftp_read_address(UNFTP_ADDRESS_229, session->bytes,
-                                                  session->reply.used, host, 0, &address);
+    const char *reply = control_front(&session->control.from);
+    enum unftp_result result = unftp_read_address(UNFTP_ADDRESS_229, reply, session->reply.used,
+                                                  host, 0, &address);
 
     if (result != UNFTP_DONE || address.port == 0)
         fail_reply(session, "no port");
@@ -282,7 +256,7 @@ static int open_data(struct session *session)
     if (ask(session, "EPSV", "") != UNFTP_CODE_ENTERING_EXTENDED_PASSIVE_MODE)
         fail_reply(session, "no passive mode");
     snprintf(port, sizeof port, "%u", port_in(session));
-    if (getpeername(session->socket, (struct sockaddr *)&address, &len) < 0)
+    if (getpeername(session->control.socket, (struct sockaddr *)&address, &len) < 0)
         fail_call("control connection");
     if (getnameinfo((struct sockaddr *)&address, len, host, sizeof host, NULL, 0, NI_NUMERICHOST)
         != 0)
@@ -301,13 +275,25 @@ static void show(const struct progress *progress, const char *end)
     fputs(end, stderr);
 }
 
+static size_t receive_data(int data, char *bytes, size_t room)
+{
+    ssize_t got;
+
+    do {
+        got = recv(data, bytes, room, 0);
+    } while (got < 0 && errno == EINTR);
+    if (got < 0)
+        fail_call("data connection");
+    return (size_t)got;
+}
+
 /* Writes what comes over the data connection, and shows the progress once a second. */
 static void copy(int data, FILE *output, struct progress *progress)
 {
     char bytes[DATA_ROOM];
     size_t got;
 
-    while ((got = receive(data, bytes, sizeof bytes, "data connection")) > 0) {
+    while ((got = receive_data(data, bytes, sizeof bytes)) > 0) {
         if (fwrite(bytes, 1, got, output) != got)
             fail_call("output");
         progress->received += got;
@@ -359,8 +345,8 @@ int main(int count, char **arguments)
             fail("a name, a password and a path are of one line");
     }
     signal(SIGPIPE, SIG_IGN);
-    session.search.limit = sizeof session.bytes;
-    session.socket = connect_to(arguments[1], arguments[2]);
+    if (!control_start(&session.control, connect_to(arguments[1], arguments[2])))
+        fail_call("control connection");
     if (final_code(&session, UNFTP_TO_GREETING) / 100 != 2)
         fail_reply(&session, "no session");
     log_in(&session, arguments[3], arguments[4]);
@@ -369,6 +355,6 @@ int main(int count, char **arguments)
     download(&session, arguments[5], arguments[6]);
     if (!is_closing(&session))
         ask(&session, "QUIT", "");
-    close(session.socket);
+    close(session.control.socket);
     return EXIT_SUCCESS;
 }
