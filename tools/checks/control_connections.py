@@ -75,6 +75,8 @@ class Program(StartedServer):
         return super().__enter__()
 
     def __exit__(self, *raised):
+        self.process.terminate()
+        self.process.wait(PATIENCE)
         super().__exit__(*raised)
         self.errors.seek(0)
         wants("whether the password is in the log", PASSWORD.encode() in self.errors.read(), False)

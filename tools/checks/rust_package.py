@@ -433,7 +433,8 @@ def wants_data_ports(port):
         client.connect(HOST, port)
         client.login("anna", "secret")
         for line, code in [("PORT 127,0,0,1,3,255", "504"), ("EPRT |1|127.0.0.2|1024|", "504"), ("EPRT |2|::1|1024|", "522"), ("EPSV 2", "522"),
-                           ("EPRT |3|a|1|", "522"), ("EPRT", "501"), ("PORT 127,0,0,1,0,0", "501"), ("PORT 1,2,3", "501"), ("EPSV x", "501")]:
+                           ("EPRT |3|a|1|", "522"), ("EPRT", "501"), ("PORT 127,0,0,1,0,0", "501"), ("PORT 1,2,3", "501"), ("EPSV x", "501"),
+                           ("EPRT\0|1|127.0.0.1|1024|", "502")]:
             wants(f"the code of {line}", refused_code(client, line), code)
         wants("the code of EPSV 1", client.sendcmd("EPSV 1")[:3], "229")
         address = client.makepasv()
