@@ -59,8 +59,8 @@ enum {
     /* a proxy's own answer, with its code and its line end */
     CONTROL_ANSWER_ROOM = 256,
 
-    /* how much a client may still send once its session has ended, and how long, in milliseconds, it
-       is waited for each time */
+    /* how much an end may still send once its session has ended, and how long it is waited for each
+       time, in milliseconds */
     CONTROL_DROPPED_MOST = 1024 * 1024,
     CONTROL_LAST_WAIT = 2000
 };
@@ -86,7 +86,8 @@ struct control {
     struct control_bytes to;
 };
 
-/* A line of a client. It lasts until the next one is taken, or more is received. */
+/* A line of a client. It lasts until the next one is taken, or the socket is polled or received
+   from. */
 struct control_line {
     enum unftp_result event; /* what unftp_next has returned */
     const char *bytes;       /* with the line's end */
@@ -112,6 +113,23 @@ static inline const char *control_front(const struct control_bytes *bytes)
 static inline void control_drop(struct control_bytes *bytes, size_t len)
 {
     bytes->start += len;
+}
+
+/* Drops the last line or reply. */
+static inline void control_drop_used(struct control *control)
+{
+    control_drop(&control->from, control->used);
+    control->used = 0;
+}
+
+/* Drops all that has come: how many bytes. */
+static inline size_t control_drop_all(struct control *control)
+{
+    size_t dropped = control_pending(&control->from);
+
+    control_drop(&control->from, dropped);
+    control->used = 0;
+    return dropped;
 }
 
 /* Moves the pending bytes to the start: how much room there is after them. */
@@ -288,8 +306,7 @@ static inline bool control_is_over(struct control *control)
     if (!control->is_shut)
         control->is_gone = shutdown(control->socket, SHUT_WR) < 0;
     control->is_shut = true;
-    control->dropped += control_pending(&control->from);
-    control_drop(&control->from, control_pending(&control->from));
+    control->dropped += control_drop_all(control);
     return control->is_gone || control->dropped > CONTROL_DROPPED_MOST;
 }
 
@@ -306,13 +323,6 @@ static inline void control_finish(struct control *control)
         control_exchange(control, polled.revents);
     }
     close(control->socket);
-}
-
-/* Drops the last line or reply. */
-static inline void control_drop_used(struct control *control)
-{
-    control_drop(&control->from, control->used);
-    control->used = 0;
 }
 
 /* Takes the first line of what has come; false where none is complete. */
@@ -336,7 +346,8 @@ static inline bool control_take(struct control *control, struct control_line *li
 }
 
 /* Takes the next line, which is to be answered, and drops the one before it. It is false where the
-   line has to wait: for its bytes, or for the client to read. Then what the socket takes is sent. */
+   line has to wait: for its bytes, or for the client to read. Then the replies are sent, as far as
+   the socket takes them. */
 static inline bool control_next_line(struct control *control, struct control_line *line)
 {
     control_drop_used(control);
@@ -422,8 +433,8 @@ static inline bool control_login_reply(struct control *control, enum unftp_login
 }
 
 /* What is to be done with a line. At UNFTP_LOGIN_PASS_ON the server answers it. At
-   UNFTP_LOGIN_ASK_ACCOUNTS it asks whether the value is the password of the name, and passes that to
-   control_answer_login before the next line. At any other step the line is answered. */
+   UNFTP_LOGIN_ASK_ACCOUNTS it asks its accounts whether the value is the password of the name, and
+   passes that to control_answer_login before the next line. At other steps the line is answered. */
 static inline enum unftp_login_step control_log_in(struct control *control,
                                                    struct control_login *login,
                                                    const struct control_line *line)
@@ -463,8 +474,8 @@ static inline const char *control_shown(struct control_line *line)
 }
 
 /*
- * A proxy of a control connection: each line of the client is sent to the server, or answered by the
- * proxy in its turn, and each reply of the server is passed on as it came. Neither socket waits.
+ * A proxy of a control connection. Each line of the client is sent to the server, or answered by
+ * the proxy in its turn. Each reply of the server is passed on as it came. Only poll waits.
  */
 struct control_proxy {
     struct control client;
@@ -497,7 +508,8 @@ static inline bool control_proxy_start(struct control_proxy *proxy, int client, 
     return has_client && has_server;
 }
 
-/* Answers the client in the server's place, once its turn has come. The text has to last. */
+/* Answers the client in the server's place, once its turn has come. The text has to last, and to be
+   short: it has at most 250 bytes. */
 static inline void control_proxy_answer(struct control_proxy *proxy, enum unftp_code code,
                                         const char *text)
 {
@@ -505,7 +517,7 @@ static inline void control_proxy_answer(struct control_proxy *proxy, enum unftp_
     proxy->held_text = text;
 }
 
-/* Ends the session, with a 421 that waits for nothing. The text has to last. */
+/* Ends the session by a 421 that waits for nothing. The text has to last. */
 static inline void control_proxy_end(struct control_proxy *proxy, const char *text)
 {
     proxy->end_text = text;
@@ -654,7 +666,7 @@ static inline bool control_may_take(struct unftp_client copy)
 }
 
 /* Whether each line that was sent has its replies, after the greeting. */
-static inline bool control_is_answered(const struct control_proxy *proxy)
+static inline bool control_proxy_is_answered(const struct control_proxy *proxy)
 {
     return proxy->dialogue.greeted != 0 && unftp_client_owed(&proxy->dialogue) == 0;
 }
@@ -668,14 +680,14 @@ static inline enum control_event control_proxy_take(struct control_proxy *proxy,
 
     if (proxy->held_text != NULL || control_room(&proxy->server.to) < CONTROL_FORWARDED_MOST)
         return CONTROL_NOTHING;
-    if (control_drop_telnet(client) && !proxy->drops_lines && control_may_take(proxy->dialogue)
-        && control_take(client, line)) {
+    if (proxy->drops_lines) {
+        control_drop_all(client);
+    } else if (control_drop_telnet(client) && control_may_take(proxy->dialogue)
+               && control_take(client, line)) {
         unftp_client_take(&proxy->dialogue);
         return CONTROL_LINE;
     }
-    if (proxy->drops_lines)
-        control_drop(&client->from, control_pending(&client->from));
-    proxy->is_over = client->is_at_end && control_is_answered(proxy);
+    proxy->is_over = client->is_at_end && control_proxy_is_answered(proxy);
     return CONTROL_NOTHING;
 }
 
@@ -699,9 +711,9 @@ static inline enum control_event control_proxy_next(struct control_proxy *proxy,
 
 /* Whether only the server is waited for. It may take its time, as for a transfer: it has a limit of
    its own, which also ends the session of a client that sends bytes but no line. */
-static inline bool control_is_servers_turn(const struct control_proxy *proxy)
+static inline bool control_proxy_is_servers_turn(const struct control_proxy *proxy)
 {
-    return proxy->dialogue.greeted != 0 && !control_is_answered(proxy)
+    return proxy->dialogue.greeted != 0 && !control_proxy_is_answered(proxy)
         && control_pending(&proxy->client.to) == 0 && control_pending(&proxy->server.to) == 0;
 }
 
@@ -714,7 +726,7 @@ static inline void control_proxy_wait(struct control_proxy *proxy, int idle)
 
     if (proxy->is_over)
         return;
-    count = poll(polled, 2, control_is_servers_turn(proxy) ? -1 : idle);
+    count = poll(polled, 2, control_proxy_is_servers_turn(proxy) ? -1 : idle);
     if (count == 0 || (count < 0 && errno != EINTR))
         control_proxy_end(proxy, count == 0 ? "timeout" : "poll failed");
     if (count <= 0)

@@ -3,8 +3,8 @@
  *
  *     epoll [PORT]
  *
- * It listens on a port of 127.0.0.1, 2161 or that which is named, and prints it as one line. Standard
- * error shows each line of a client, without its password. server.c has limits on idle clients.
+ * It listens on a port of 127.0.0.1, which is 2161 unless one is named, and prints it as one line.
+ * Standard error shows each line of a client, without its password. Idle clients may stay.
  */
 #define _GNU_SOURCE
 

@@ -3,10 +3,10 @@
  *
  *     filter PORT SERVER_PORT
  *
- * It listens on PORT of 127.0.0.1, and prints its port as one line; where PORT is 0, the system picks
+ * It listens on PORT of 127.0.0.1, and prints that as one line; where it is 0, the system picks
  * one. Each client has a process of its own, and a connection to SERVER_PORT of 127.0.0.1. Standard
  * error shows each line of a client, without its password. The client opens each data connection to
- * the server itself. relay.c has limits, and logs replies.
+ * the server itself. relay.c lets no file be changed, limits clients, and logs replies.
  */
 #define _POSIX_C_SOURCE 200809L
 
