@@ -86,10 +86,15 @@ static void serve_next(int listener, uint16_t server_port)
 int main(int count, char **arguments)
 {
     uint16_t port = count == 3 ? (uint16_t)atoi(arguments[1]) : 0;
-    int listener = count == 3 ? control_listen(&port) : -1;
+    int listener;
 
-    if (listener < 0) {
+    if (count != 3) {
         fputs("usage: filter PORT SERVER_PORT\n", stderr);
+        return 2;
+    }
+    listener = control_listen(&port);
+    if (listener < 0) {
+        perror("filter");
         return EXIT_FAILURE;
     }
     signal(SIGCHLD, SIG_IGN); /* no process is waited for */
