@@ -36,7 +36,7 @@ SESSION = [
     (b"PASS secret\r\n", b"503"),
     (b"NOOP\r\n", b"200"),
     (b"USER anna\r\n", b"331"),
-    (b"PASS wrong\r\n", b"530"),
+    (b"PASS secreT\r\n", b"530"),
     (b"PASS secret\r\n", b"503"),
     (b"USER other\r\n", b"331"),
     (b"PASS secret\r\n", b"530"),
@@ -278,6 +278,7 @@ def check_turns(*program):
             ends.client_gets(b"501 CR, NUL or 255 in a parameter\r\n")
             ends.client.sendall(b"QUIT\r\nNOOP\r\n")
             ends.server_gets(b"QUIT\r\n")
+            wants_silence("the server", ends.server)
             ends.server.sendall(BYE)
             ends.server.close()
             ends.client_ends_with(BYE)
