@@ -101,7 +101,9 @@ pub record Receives (before : PendingReplies) (input : InputState)
     (result : NextReply ReceiveError) (after : PendingReplies) (input' : InputState)
     : Type 0 where
   pub pieces : List Bytes
+  -- each piece has at most 4,096 bytes; at `None` the last read came to the end
   pub were_read : WereRead input input' pieces (end_read result)
+  -- a failed read is counted at the error `Read`, and at no other outcome
   pub failures : input'.failures ≡ input.failures + failed_reads result
   pub takes_next : MatchResult result
       (λ next. MatchOption next

@@ -130,6 +130,8 @@ HasError limit bytes OutOfMemory = HasFront (within_limit limit bytes)
 abbrev pub NextReply : Type 0 → Type 0
 NextReply Error = Result (Option ReceivedReply) Error
 
+-- The first reply is taken; or there is only a part of one; or there is an error, and all bytes
+-- stay pending.
 abbrev pub TakesNextReply : PendingReplies → NextReply NextReplyError → PendingReplies → Type 0
 TakesNextReply before result after = MatchResult result
     (λ next. MatchOption next

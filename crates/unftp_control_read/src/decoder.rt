@@ -62,6 +62,7 @@ impl ReplyDecoder {
     /// A decoder that was pushed nothing. A reply may have any length, and all its bytes are kept
     /// until its last line is complete: for a server that is not trusted, set a limit.
     pub fn new(alloc: Global) -> ReplyDecoder
+        // Nothing is pending or was ever held, and there is no limit.
         ensures { result ≡ no_bytes None }
     {
         ReplyDecoder {
@@ -75,7 +76,9 @@ impl ReplyDecoder {
     /// A decoder that was pushed nothing. A reply may have at most `limit` bytes, its line ends
     /// counted (RFC 959 names no limit).
     pub fn with_limit(alloc: Global, limit: usize) -> ReplyDecoder
+        // The limit is at least one byte.
         requires { 1 ≤ limit }
+        // Nothing is pending or was ever held, and a reply may have at most `limit` bytes.
         ensures { result ≡ no_bytes (Some limit) }
     {
         ReplyDecoder {
@@ -89,6 +92,7 @@ impl ReplyDecoder {
     /// The pending bytes: those after the last reply that was taken. Where `next_reply` has
     /// returned `None`, they are a part of a reply.
     pub fn pending(&self) -> &[u8]
+        // All pending bytes are returned.
         ensures { result.now ≡ self.now.bytes }
     {
         self.buffer.pending()
@@ -97,9 +101,14 @@ impl ReplyDecoder {
     /// Appends a piece to the pending bytes. When out of memory, nothing changes; it only is where
     /// the buffer would hold more bytes than it ever did, and never for an empty piece.
     pub fn push(&mut self, piece: &[u8]) -> Result<(), AllocError>
+        // At `Ok` the piece follows the pending bytes, and replies that were taken may have left
+        // the buffer.
         ensures ok { OnOk result (self.new ≡ pushed self.old piece.now) }
+        // At an error nothing changes.
         ensures err { OnErr result (self.new ≡ self.old) }
+        // It is never out of memory for an empty piece.
         ensures some { OnErr result (¬ (piece.now ≡ [])) }
+        // It is out of memory only where the buffer would hold more bytes than it ever did.
         ensures memory { OnErr result (self.old.held < self.old.buffered + length piece.now) }
     {
         let most = self.buffer.bytes.len() + piece.len();
@@ -113,24 +122,34 @@ impl ReplyDecoder {
     /// returned from then on, whatever is pushed, and after `OutOfMemory` the next call finds the
     /// same reply again.
     ///
-    /// Where it returns `None`, its buffer holds the pending bytes only: so with a limit, where all
+    /// Where it returns `None`, its buffer holds only the pending bytes. So with a limit, where all
     /// replies are taken before the next piece is pushed, it never holds more than the limit and
     /// one piece.
     pub fn next_reply(&mut self) -> Result<Option<ReceivedReply>, NextReplyError>
+        // A reply is the first, within the limit, and is removed. Else all bytes stay pending: at
+        // `None` as a part of a reply below the limit, at an error for the reason that it names.
         ensures takes_next { TakesNextReply self.old result self.new }
+        // A reply that the pending bytes begin with, within the limit, is returned, or the result
+        // is `OutOfMemory`.
         ensures whole { (code : ℕ) (lines : List Bytes) (used : ℕ)
             → FrontReply self.old.bytes code lines used
             → IfSome self.old.limit (λ limit. used ≤ limit)
             → IsReturned code lines result }
+        // `None` is returned for each part of a reply that is not too long.
         ensures partial { IsPartial self.old.bytes
             → ¬ IsTooLongReply self.old.limit self.old.bytes
             → result ≡ Ok None }
+        // `Malformed` is returned where the bytes that a reply may have are malformed.
         ensures malformed { IsMalformed (within_limit self.old.limit self.old.bytes)
             → result ≡ Err NextReplyError.Malformed }
+        // `TooLong` is returned where as many bytes as a reply may have are only a part of one.
         ensures too_long { IsTooLongReply self.old.limit self.old.bytes
             → result ≡ Err NextReplyError.TooLong }
+        // At `None` the buffer holds only the pending bytes, and else as many as before.
         ensures buffered { self.new.buffered ≡ held_after self.old result self.new }
+        // The limit stays the same.
         ensures limit { self.new.limit ≡ self.old.limit }
+        // The most bytes that the buffer has held stay the same.
         ensures held { self.new.held ≡ self.old.held }
     {
         let reply = self.take_next()?;
@@ -171,7 +190,10 @@ impl ReplyDecoder {
     /// For a proxy, which passes a reply on as it came: `pending` has its bytes, `consume` removes
     /// them, and `settle` lets them leave the buffer.
     pub fn find_first(&mut self) -> Result<Option<FirstReply>, NextReplyError>
+        // A reply has the code and the length of the first, within the limit. `None` is a part of
+        // one below the limit, and an error has its reason, which is never `OutOfMemory`.
         ensures finds { FindsFirst self.old.limit self.old.bytes result }
+        // The pending bytes, the limit and what the buffer holds stay the same.
         ensures same { self.new ≡ self.old }
     {
         self.search.find_first(self.buffer.pending(), self.limit)
@@ -180,7 +202,9 @@ impl ReplyDecoder {
     /// Removes so many bytes from the start of the pending bytes, as those of a reply that was
     /// found.
     pub fn consume(&mut self, count: usize)
+        // At least `count` bytes are pending.
         requires { count ≤ length self.old.bytes }
+        // The first `count` pending bytes are removed, and nothing else changes.
         ensures { self.new ≡ record self.old { bytes = drop count self.old.bytes } }
     {
         self.buffer.start += count;
@@ -191,6 +215,7 @@ impl ReplyDecoder {
     /// its start, and it holds only them. `next_reply` does so where it returns `None`. It is for a
     /// caller that uses `find_first` and `consume`, once there is no further reply.
     pub fn settle(&mut self)
+        // The buffer holds only the pending bytes, and nothing else changes.
         ensures { self.new ≡ settled self.old }
     {
         self.buffer.settle();
@@ -198,6 +223,8 @@ impl ReplyDecoder {
 
     /// Drops all pending bytes, as a client does before TLS begins: no later reply comes of them.
     pub fn clear(&mut self)
+        // No byte is pending or in the buffer. The limit and the most that it has held stay the
+        // same.
         ensures { self.new ≡ cleared self.old }
     {
         self.buffer.clear();
@@ -222,6 +249,7 @@ impl ReplyDecoder {
 
 /// One answer is found for the first reply, by whatever search.
 pub fn first_replies_are_one()
+    // For the same bytes and limit, two results that are right by `FindsFirst` are equal.
     ensures { (limit : Option ℕ) (bytes : Bytes)
         (found other : Result (Option RustFirst) RustError)
         → FindsFirst limit bytes found → FindsFirst limit bytes other → found ≡ other }

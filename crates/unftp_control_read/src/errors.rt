@@ -72,6 +72,7 @@ impl From<AllocError> for ReceiveError {
     ghost use Rattle.std.specs.Prelude.{◌≡◌};
     ghost use Rattle.unftp_control_read.specs.declared.errors.ReceiveError.TheVariants.{OutOfMemory};
 
+    // A failed allocation is out of memory.
     ghost from_gives = { λ _ error. error ≡ OutOfMemory };
 
     fn from(_failed: AllocError) -> ReceiveError {

@@ -69,14 +69,23 @@ pub enum ReadReplyError {
 /// copied. So `Partial` and `Malformed` take no memory, and `OutOfMemory` is returned only where a
 /// complete reply is there. The bytes after the reply are ignored.
 pub fn read_reply(alloc: Global, bytes: &[u8]) -> Result<Front, ReadReplyError>
+    // `Whole` has the code, the lines and the length of the reply at the start. `Partial` is
+    // returned only for a part of a reply.
     ensures front { IfOk result (λ front. ReturnsFront bytes.now front) }
+    // `Malformed` is returned only for malformed bytes, `OutOfMemory` only where they begin with a
+    // complete reply.
     ensures refusal { IfErr result (λ refusal. ReturnsRefusal bytes.now refusal) }
+    // Where the bytes begin with a reply, its code, lines and length are returned, or the result is
+    // `OutOfMemory`.
     ensures whole { (code : ℕ) (lines : List Bytes) (used : ℕ)
         → FrontReply bytes.now code lines used
         → MatchResult result (λ front. IsWhole code lines used front) (λ refusal.
         refusal ≡ ReadReplyError.OutOfMemory) }
+    // A complete reply has at least one byte, and no more than there are.
     ensures within { IfOk result (λ front. IsWithin bytes.now front) }
+    // `Partial` is returned for each part of a reply.
     ensures partial { IsPartial bytes.now → result ≡ Ok Front.Partial }
+    // `Malformed` is returned for all malformed bytes.
     ensures malformed { IsMalformed bytes.now → result ≡ Err ReadReplyError.Malformed }
 {
     read_front(alloc, &mut Search::new(), bytes)
@@ -124,10 +133,15 @@ pub enum FoundReply {
 /// Finds the reply at the start of `bytes`, as `read_reply` does (RFC 959, section 4.2). It copies
 /// no lines, so it takes no memory.
 pub fn find_reply(bytes: &[u8]) -> FoundReply
+    // `Whole` has the code and the length of the reply at the start. `Partial` is returned only for
+    // a part of a reply, `Malformed` only for malformed bytes.
     ensures found { ReturnsFound bytes.now result }
+    // Where the bytes begin with a reply, its code and length are found.
     ensures whole { (code : ℕ) (lines : List Bytes) (used : ℕ)
         → FrontReply bytes.now code lines used → IsFound code used result }
+    // `Partial` is returned for each part of a reply.
     ensures partial { IsPartial bytes.now → result ≡ FoundReply.Partial }
+    // `Malformed` is returned for all malformed bytes.
     ensures malformed { IsMalformed bytes.now → result ≡ FoundReply.Malformed }
 {
     Search::new().find_front(bytes)
@@ -135,12 +149,15 @@ pub fn find_reply(bytes: &[u8]) -> FoundReply
 
 /// Two fronts are equal exactly where their contents are.
 pub fn same_fronts()
+    // `==` is true exactly for the same code, lines and length, or for two `Partial`.
     ensures { (a b : RustFront)
         → IsTrue (⟦<Front as PartialEq>⟧.eq a b) ↔ (front_meant a ≡ front_meant b) }
 {}
 
 /// `==` of what is found is equality, and a clone is equal.
 pub fn same_found_replies()
+    // `==` is true exactly where both are equal.
     ensures equal { (a b : RustFound) → IsTrue (⟦<FoundReply as PartialEq>⟧.eq a b) ↔ (a ≡ b) }
+    // A clone is equal to its original.
     ensures clone { (a b : RustFound) → ⟦<FoundReply as Clone>⟧.is_clone a b → b ≡ a }
 {}

@@ -22,7 +22,9 @@ pub struct LinePlace {
 /// that begins there is complete. Of the first line, at 0, and of the last, the text is what comes
 /// after the code and the byte that follows that; of those between it is all of the line.
 pub fn line_at(reply: &[u8], at: usize) -> Option<LinePlace>
+    // The offset is within the reply, or at its end.
     requires { at ≤ length reply.now }
+    // `Some` is the place of the line that begins at `at`. At `None` no CR LF comes from there on.
     ensures { FindsLine reply.now at result }
 {
     let (_, rest) = reply.split_at(at);
@@ -56,6 +58,8 @@ fn code_len(has_code: bool, line: &[u8]) -> usize
 /// The places of the lines of a reply, found one after the other, have the texts that are read of
 /// it.
 pub fn lines_are_at_places()
+    // Where the bytes are one reply of these lines, the texts at the places are these lines, in
+    // order.
     ensures { (bytes : Bytes) (code : ℕ) (lines : List Bytes) (places : List RustPlace)
         → IsReply bytes code lines → AreLinePlaces bytes 0 places
         → map (text_at bytes) places ≡ lines }

@@ -64,17 +64,20 @@ impl ReplyDecoder {
         &mut self,
         reader: &mut Input<R>,
     ) -> Result<Option<ReceivedReply>, ReceiveError>
-        // Of any reader: the reply is the first of the pending bytes and those that were read, and
-        // what follows it is pending; where there is none, all of them are a part of a reply, and
-        // pending.
+        // A reply is the first of the pending bytes and those that were read. What follows it is
+        // pending; without one all are, at `None` as a part of a reply at the reader's end.
         ensures receives { Receives self.old (input_state_of R.remaining reader.old) result
             self.new (input_state_of R.remaining reader.new) }
+        // The limit stays the same.
         ensures limit { self.new.limit ≡ self.old.limit }
-        // With a limit, no more is pending then than the limit and one read, or than before.
+        // With a limit, at most the limit and 4,095 bytes are pending, or as many as before.
         ensures pending { IfSome self.old.limit (λ limit.
             length self.new.bytes ≤ max (length self.old.bytes) (limit + 4095)) }
+        // With a limit, the buffer holds at most the limit and 4,095 bytes, or as many as before.
         ensures buffered { IfSome self.old.limit (λ limit.
             self.new.buffered ≤ max self.old.buffered (limit + 4095)) }
+        // With a limit, the buffer has held at most the limit and 4,095 bytes at once, or as many
+        // as before.
         ensures held { IfSome self.old.limit (λ limit.
             self.new.held ≤ max self.old.held (limit + 4095)) }
     {

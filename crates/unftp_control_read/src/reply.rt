@@ -14,6 +14,7 @@ pub struct ReceivedReply {
 
 /// Two replies are equal exactly where their codes and lines are.
 pub fn same_received_replies()
+    // `==` is true exactly for the same code and the same lines.
     ensures { (a b : RustReply)
         → IsTrue (⟦<ReceivedReply as PartialEq>⟧.eq a b) ↔ (content a ≡ content b) }
 {}

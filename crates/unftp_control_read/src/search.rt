@@ -81,7 +81,9 @@ fn pass_line(bytes: &[u8], is_first: bool, line: &[u8], after: &[u8]) -> Option<
 impl Search {
     /// Nothing is searched.
     pub fn new() -> Search
+        // It begins at the first byte, and has scanned none.
         ensures new { result ≡ begun_at 0 0 }
+        // Its line and offset are true of any bytes.
         ensures searched { (bytes : Bytes) → IsSearched bytes result }
     {
         Search::resume(0, 0)
@@ -90,6 +92,7 @@ impl Search {
     /// A search that goes on where another one stopped, for a caller that keeps only what `line`
     /// and `offset` returned. It has scanned nothing itself.
     pub fn resume(line: usize, offset: usize) -> Search
+        // It goes on at this line and this offset, and has scanned nothing itself.
         ensures { result ≡ begun_at line offset }
     {
         Search {
@@ -102,6 +105,7 @@ impl Search {
     /// Where the first line begins that is not passed: those before it are lines of a reply that
     /// goes on after them.
     pub fn line(&self) -> usize
+        // The position is the one that the search keeps.
         ensures { result ≡ self.now.line }
     {
         self.line
@@ -109,6 +113,7 @@ impl Search {
 
     /// How many bytes were scanned for a line feed.
     pub fn offset(&self) -> usize
+        // The number is the one that the search keeps.
         ensures { result ≡ self.now.offset }
     {
         self.offset
@@ -161,11 +166,18 @@ impl Search {
         bytes: &[u8],
         limit: Option<usize>,
     ) -> Result<Option<FirstReply>, NextReplyError>
+        // The line begins at the offset or before it, and the offset is within the bytes that a
+        // reply may have.
         requires { IsSearchWithin self.old (length (within_limit limit bytes.now)) }
+        // Where line and offset are true of these bytes, the result is their first reply, or `None`
+        // for a part of one below the limit, or the reason why there is none.
         ensures finds { IsSearched (within_limit limit bytes.now) self.old
             → FindsFirst limit bytes.now result }
+        // Where line and offset are true of these bytes before the call, they are after it.
         ensures searched { IsSearched (within_limit limit bytes.now) self.old
             → IsSearched (within_limit limit bytes.now) self.new }
+        // The bytes from the offset to the end of the reply are scanned. At `None` and `TooLong`
+        // all from it on are, and the offset is then at their end; at `Malformed` at most all.
         ensures scanned { FindsByScan self.old (length (within_limit limit bytes.now)) result
             self.new }
     {
@@ -185,6 +197,7 @@ impl Search {
 
 /// The bytes that a reply may have: the first `limit` ones, or all.
 pub fn first_bytes(bytes: &[u8], limit: Option<usize>) -> &[u8]
+    // The bytes are the first `limit` ones, or all where they are fewer or there is no limit.
     ensures { result.now ≡ within_limit limit bytes.now }
 {
     match limit {
