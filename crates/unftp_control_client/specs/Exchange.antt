@@ -45,8 +45,8 @@ IsNext before (Ok (Some taken)) after =
 IsNext before (Ok None) after = after ≡ before
 IsNext before (Err error) after = after ≡ before
 
--- TLS may begin: the last reply was a 234 to the last command that asks for it, no command is owed
--- a reply, so that it was the last, and nothing is pending (RFC 4217, section 4).
+-- TLS may begin: the last reply was a 234 to the last command that asks for it, and nothing is
+-- pending. No command is owed a reply, so that it was the last (RFC 4217, section 4).
 abbrev pub MayBeginTls : Client → Type 0
 MayBeginTls client = IsTrue client.dialogue.agreed × (commands_owed client.dialogue ≡ 0)
     × (client.replies.bytes ≡ [])

@@ -1,6 +1,6 @@
 -- The order in which a proxy takes the lines of its client, sends each to a server or answers it
--- itself, and passes the server's replies on: by calls, of which each is refused where it would
--- break the order (RFC 959, section 5.4).
+-- itself, and passes the server's replies on. It does so by calls, and each is refused where it
+-- would break the order (RFC 959, section 5.4).
 use Rattle.std.specs.Prelude.{ℕ, suc, ◌+◌, ◌-◌, ◌^◌, ◌<◌, ◌==◌, ◌&&◌, not, if◌then◌else◌, List, [], ◌∷◌, ◌++◌, Bool, true, false, Option, None, Some, ⊤}
 use Rattle.unftp_control_defs.specs.Bytes.{Bytes}
 use Rattle.unftp_control_defs.specs.Turns.{is_preliminary}
@@ -24,8 +24,8 @@ may_take order = not order.taken && not (awaits_tls order.dialogue)
 abbrev pub is_full : Order → Bool
 is_full order = order.dialogue.sent == 2 ^ 64 - 1
 
--- The line that is taken may be answered by a reply of this code: the server owes none, and no other
--- follows it.
+-- The line that is taken may be answered by a reply of this code: the server owes none, and no
+-- other follows it.
 abbrev pub may_answer : Order → ℕ → Bool
 may_answer order code =
     order.taken && (not (owes_reply order.dialogue) && not (is_preliminary code))
@@ -103,8 +103,8 @@ IsWithin lines Nothing = ⊥
 abbrev pub IsToTaken : ℕ → ReplyTo → Type 0
 IsToTaken lines given = IsWithin lines given.to
 
--- how many final replies the client is still owed: the greeting, those of the server, and the one to
--- the line that is taken
+-- how many final replies the client is still owed: the greeting, those of the server, and the one
+-- to the line that is taken
 abbrev pub greeting_owed : Option ℕ → ℕ
 greeting_owed None = 1
 greeting_owed (Some answered) = 0

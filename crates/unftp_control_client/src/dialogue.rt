@@ -32,8 +32,11 @@ pub struct ClientReply {
 /// `==` of what two replies are to is equality, and a clone is equal; two replies are equal exactly
 /// where their codes and lines are, and what they are to.
 pub fn same_client_replies()
+    // `==` of what two replies are to is true exactly where both are equal.
     ensures to { (a b : RustTo) → IsTrue (⟦<To as PartialEq>⟧.eq a b) ↔ (a ≡ b) }
+    // A clone of what a reply is to is equal to its original.
     ensures clone { (a b : RustTo) → ⟦<To as Clone>⟧.is_clone a b → b ≡ a }
+    // `==` of two replies is true exactly for the same code and lines, to the same.
     ensures reply { (a b : RustReply)
         → IsTrue (⟦<ClientReply as PartialEq>⟧.eq a b) ↔ (reply_to a ≡ reply_to b) }
 {
@@ -82,6 +85,7 @@ fn is_spelled(line: &[u8], text: &[u8]) -> bool
 impl Dialogue {
     /// Nothing was sent or received.
     pub fn new() -> Dialogue
+        // Nothing was sent or received.
         ensures { result ≡ new_dialogue }
     {
         Dialogue {
@@ -94,6 +98,7 @@ impl Dialogue {
 
     /// How many commands are owed their final reply.
     pub fn owed(&self) -> u64
+        // The count is that of the commands that were sent, less those that have their final reply.
         ensures { result ≡ commands_owed self.now }
     {
         self.sent.saturating_sub(self.answered.unwrap_or(0))
@@ -101,6 +106,7 @@ impl Dialogue {
 
     /// Whether a reply is owed: the greeting, or one to a command.
     pub fn owes_reply(&self) -> bool
+        // It is true exactly where the greeting or a command that was sent has no final reply.
         ensures { result ≡ owes_reply self.now }
     {
         match self.answered {
@@ -112,6 +118,8 @@ impl Dialogue {
     /// Whether the last command that asks for TLS is owed its reply. What comes after its line may
     /// be no line (RFC 4217, section 4).
     pub fn awaits_tls(&self) -> bool
+        // It is true exactly where a command asked for TLS, and the last that did has no final
+        // reply.
         ensures { result ≡ awaits_tls self.now }
     {
         match self.asked {
@@ -123,9 +131,12 @@ impl Dialogue {
     /// Notes that the line of a command is sent, and returns the command's place. Where 64 bits
     /// don't count it, it returns `None`, and nothing changes.
     pub fn add_line(&mut self, line: &[u8]) -> Option<u64>
+        // At `Some` one more command was sent, with this line and this place. At `None` nothing
+        // changes, and 2^64 - 1 commands were sent.
         ensures place { MatchOption result
             ((self.new ≡ self.old) × (self.old.sent ≡ 2 ^ 64 - 1))
             (λ place. (self.new ≡ after_command line.now self.old) × (place ≡ self.old.sent)) }
+        // A place is less than 2^64 - 1.
         ensures counted { IfSome result (λ place. place < 2 ^ 64 - 1) }
     {
         let place = self.sent;
@@ -147,7 +158,11 @@ impl Dialogue {
 
     /// Notes that a reply with this code came, and returns what it is to.
     pub fn add_code(&mut self, code: u32) -> To
+        // The reply is the greeting until that is complete, then to the first command without a
+        // final reply, and to nothing where each has one.
         ensures to { result ≡ next_to self.old }
+        // A final reply completes what it is to. TLS is agreed exactly where the code is 234, to
+        // the last command that asks for TLS.
         ensures after { self.new ≡ after_reply self.old code }
     {
         let is_final = !is_preliminary(code);

@@ -38,6 +38,7 @@ impl From<AllocError> for SendError {
     ghost use Rattle.std.specs.Prelude.{◌≡◌};
     ghost use Rattle.unftp_control_client.specs.declared.errors.SendError.TheVariants.{OutOfMemory};
 
+    // A failed allocation is out of memory.
     ghost from_gives = { λ _ error. error ≡ OutOfMemory };
 
     fn from(_failed: AllocError) -> SendError {

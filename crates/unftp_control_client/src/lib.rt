@@ -47,6 +47,7 @@ impl Client {
     /// A client that has sent and received nothing. The greeting is expected first. A reply may
     /// have any length: for a server that is not trusted, set a limit.
     pub fn new(alloc: Global) -> Client
+        // Nothing was sent or received, and there is no limit.
         ensures { result ≡ new_client None }
     {
         Client {
@@ -58,7 +59,9 @@ impl Client {
     /// A client that has sent and received nothing. A reply may have at most `limit` bytes, its
     /// line ends counted (RFC 959 names no limit).
     pub fn with_limit(alloc: Global, limit: usize) -> Client
+        // The limit is at least one byte.
         requires { 1 ≤ limit }
+        // Nothing was sent or received, and a reply may have at most `limit` bytes.
         ensures { result ≡ new_client (Some limit) }
     {
         Client {
@@ -75,18 +78,28 @@ impl Client {
     /// `out` has no room for the line and can't grow, and with `TooManyCommands` where 2^64 - 1
     /// commands were sent. At an error nothing changes: `out` is as it was, and so is what is owed.
     pub fn send(&mut self, command: &Command, out: &mut Vec<u8>) -> Result<u64, SendError>
+        // At `Ok` the place is how many commands were sent before.
         ensures place { IfOk result (λ place. place ≡ self.old.dialogue.sent) }
+        // At `Ok` one more command was sent, with the canonical line, and nothing else changes.
         ensures ok { OnOk result (self.new ≡ record self.old {
           dialogue = after_command (canonical_line (command_of command.now)) self.old.dialogue;
         }) }
+        // At `Ok` exactly the canonical line is appended to `out`.
         ensures out { OnOk result
             (out.new.items ≡ out.old.items ++ canonical_line (command_of command.now)) }
+        // At `Ok` the canonical line is one line: its only line feed is its last byte.
         ensures line { OnOk result (IsLine (canonical_line (command_of command.now))) }
+        // At `Ok` the canonical line is read as the same command.
         ensures read_back { OnOk result
             (outcome (canonical_line (command_of command.now)) ≡ Ok (command_of command.now)) }
+        // At an error the client stays the same.
         ensures err { OnErr result (self.new ≡ self.old) }
+        // At an error `out` stays the same.
         ensures out_err { OnErr result (out.new.items ≡ out.old.items) }
+        // Where no line is read as the command, the result is `NoLine`.
         ensures no_line { ¬ HasLine (command_of command.now) → result ≡ Err SendError.NoLine }
+        // For any other command the error is `OutOfMemory`, only where `out` lacks room for the
+        // line, or `TooManyCommands`, only where 2^64 - 1 were sent.
         ensures has_line { HasLine (command_of command.now) → IfErr result (λ error.
             IsOtherError self.old.dialogue.sent
             (LacksRoom out.old (canonical_line (command_of command.now))) error) }
@@ -103,13 +116,21 @@ impl Client {
     /// `NotALine`, so that no second line is sent with the first. It is refused with `OutOfMemory`
     /// and `TooManyCommands` as `send` is. At an error nothing changes.
     pub fn send_line(&mut self, line: &[u8], out: &mut Vec<u8>) -> Result<u64, SendError>
+        // At `Ok` the place is how many commands were sent before.
         ensures place { IfOk result (λ place. place ≡ self.old.dialogue.sent) }
+        // At `Ok` one more command was sent, with this line, and nothing else changes.
         ensures ok { OnOk result
             (self.new ≡ record self.old { dialogue = after_command line.now self.old.dialogue }) }
+        // At `Ok` exactly the line is appended to `out`.
         ensures out { OnOk result (out.new.items ≡ out.old.items ++ line.now) }
+        // At an error the client stays the same.
         ensures err { OnErr result (self.new ≡ self.old) }
+        // At an error `out` stays the same.
         ensures out_err { OnErr result (out.new.items ≡ out.old.items) }
+        // Bytes that are not one line are refused with `NotALine`.
         ensures not_a_line { ¬ IsLine line.now → result ≡ Err SendError.NotALine }
+        // For a line the error is `OutOfMemory`, only where `out` lacks room for it, or
+        // `TooManyCommands`, only where 2^64 - 1 were sent.
         ensures is_line { IsLine line.now → IfErr result (λ error.
             IsOtherError self.old.dialogue.sent (LacksRoom out.old line.now) error) }
     {
@@ -147,10 +168,15 @@ impl Client {
     /// changes; it only is where the buffer would hold more bytes than it ever did, and never for
     /// an empty piece.
     pub fn receive(&mut self, piece: &[u8]) -> Result<(), AllocError>
+        // At `Ok` the piece follows the pending bytes, and replies that were taken may have left
+        // the buffer.
         ensures ok { OnOk result (self.new
             ≡ record self.old { replies = pushed self.old.replies piece.now }) }
+        // At an error nothing changes.
         ensures err { OnErr result (self.new ≡ self.old) }
+        // It is never out of memory for an empty piece.
         ensures some { OnErr result (¬ (piece.now ≡ [])) }
+        // It is out of memory only where the buffer would hold more bytes than it ever did.
         ensures memory { OnErr result
             (self.old.replies.held < self.old.replies.buffered + length piece.now) }
     {
@@ -165,23 +191,35 @@ impl Client {
     /// At an error all bytes stay pending, and what is owed is as before. `Malformed` and `TooLong`
     /// are returned from then on. After `OutOfMemory` the next call finds the same reply again.
     pub fn next_reply(&mut self) -> Result<Option<ClientReply>, NextReplyError>
+        // A reply is the first, within the limit, and is removed. Else all bytes stay pending: at
+        // `None` as a part of a reply below the limit, at an error for the reason that it names.
         ensures takes_next { TakesNextReply self.old.replies (only_reply result) self.new.replies }
+        // A reply is the greeting, or to the first command that is owed one, or to nothing, and is
+        // counted as such. At `None` and at an error what is owed stays the same.
         ensures dialogue { IsNext self.old.dialogue result self.new.dialogue }
+        // A reply that the pending bytes begin with, within the limit, is returned, or the result
+        // is `OutOfMemory`.
         ensures whole { (code : ℕ) (lines : List Bytes) (used : ℕ)
             → FrontReply self.old.replies.bytes code lines used
             → IfSome self.old.replies.limit (λ limit. used ≤ limit)
             → IsReturned code lines (only_reply result) }
+        // `None` is returned for each part of a reply that is not too long.
         ensures partial { IsPartial self.old.replies.bytes
             → ¬ IsTooLongReply self.old.replies.limit self.old.replies.bytes
             → result ≡ Ok None }
+        // `Malformed` is returned where the bytes that a reply may have are malformed.
         ensures malformed { IsMalformed
             (within_limit self.old.replies.limit self.old.replies.bytes)
             → result ≡ Err NextReplyError.Malformed }
+        // `TooLong` is returned where as many bytes as a reply may have are only a part of one.
         ensures too_long { IsTooLongReply self.old.replies.limit self.old.replies.bytes
             → result ≡ Err NextReplyError.TooLong }
+        // At `None` the buffer holds only the pending bytes, and else as many as before.
         ensures buffered { self.new.replies.buffered
             ≡ held_after self.old.replies (only_reply result) self.new.replies }
+        // The limit stays the same.
         ensures limit { self.new.replies.limit ≡ self.old.replies.limit }
+        // The most bytes that the buffer has held stay the same.
         ensures held { self.new.replies.held ≡ self.old.replies.held }
     {
         match self.replies.next_reply()? {
@@ -202,18 +240,23 @@ impl Client {
         &mut self,
         reader: &mut Input<R>,
     ) -> Result<Option<ClientReply>, ReceiveError>
+        // A reply is the greeting, or to the first command that is owed one, or to nothing, and is
+        // counted as such. At `None` and at an error what is owed stays the same.
         ensures dialogue { IsNext self.old.dialogue result self.new.dialogue }
-        // Of any reader: the reply is the first of the pending bytes and those that were read, and
-        // what follows it is pending; where there is none, all of them are a part of a reply, and
-        // pending.
+        // A reply is the first of the pending bytes and those that were read. What follows it is
+        // pending; without one all are, at `None` as a part of a reply at the reader's end.
         ensures receives { Receives self.old.replies (input_state_of R.remaining reader.old)
             (only_reply result) self.new.replies (input_state_of R.remaining reader.new) }
+        // The limit stays the same.
         ensures limit { self.new.replies.limit ≡ self.old.replies.limit }
-        // With a limit, no more is pending then than the limit and one read, or than before.
+        // With a limit, at most the limit and 4,095 bytes are pending, or as many as before.
         ensures pending { IfSome self.old.replies.limit (λ limit.
             length self.new.replies.bytes ≤ max (length self.old.replies.bytes) (limit + 4095)) }
+        // With a limit, the buffer holds at most the limit and 4,095 bytes, or as many as before.
         ensures buffered { IfSome self.old.replies.limit (λ limit.
             self.new.replies.buffered ≤ max self.old.replies.buffered (limit + 4095)) }
+        // With a limit, the buffer has held at most the limit and 4,095 bytes at once, or as many
+        // as before.
         ensures held { IfSome self.old.replies.limit (λ limit.
             self.new.replies.held ≤ max self.old.replies.held (limit + 4095)) }
     {
@@ -225,6 +268,7 @@ impl Client {
 
     /// How many commands are owed their final reply.
     pub fn owed(&self) -> u64
+        // The count is that of the commands that were sent, less those that have their final reply.
         ensures { result ≡ commands_owed self.now.dialogue }
     {
         self.dialogue.owed()
@@ -232,6 +276,7 @@ impl Client {
 
     /// The pending bytes: those after the last reply that was taken.
     pub fn pending(&self) -> &[u8]
+        // All pending bytes are returned.
         ensures { result.now ≡ self.now.replies.bytes }
     {
         self.replies.pending()
@@ -245,6 +290,8 @@ impl Client {
     /// Bytes that came after the reply in clear text must not be taken for replies under TLS: where
     /// there are any, the connection has to be closed.
     pub fn tls_agreed(&self) -> bool
+        // It is true exactly where the last reply was a 234 to the last command that asks for TLS,
+        // no command is owed a reply, and no byte is pending.
         ensures { IsTrue result ↔ MayBeginTls self.now }
     {
         self.dialogue.agreed && self.owed() == 0 && self.pending().is_empty()
