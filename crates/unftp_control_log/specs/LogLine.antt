@@ -20,8 +20,8 @@ pub use Rattle.unftp_control_serve.specs.ClientLines.{unless_too_long}
 abbrev pub IsPrintable : ℕ → Type 0
 IsPrintable b = (32 ≤ b) × (b ≤ 126)
 
--- The bytes as `escape_ascii` of Rust writes them: those that are printable as they are, but a
--- backslash and a quote after a backslash; tab, CR and LF as `\t`, `\r` and `\n`; and any other as
+-- The bytes as `escape_ascii` of Rust writes them. Those that are printable are as they are, but a
+-- backslash and a quote after a backslash. Tab, CR and LF are `\t`, `\r` and `\n`, and any other is
 -- `\x` and two hexadecimal digits.
 abbrev pub shown : Bytes → Bytes
 shown text = flat_map escape_ascii text
@@ -34,7 +34,7 @@ IsShownPlain b = escape_ascii b ≡ b ∷ []
 abbrev pub asterisks : Bytes
 asterisks = codes "***"
 
--- The verbs with no rule of their own here that are words of FTP: those of the registry of its
+-- The verbs with no rule of their own here that are words of FTP. They are of the registry of its
 -- commands (RFC 5797, section 3; ALGS of RFC 6384, HOST of RFC 7151) and of RFC 1123, section
 -- 4.1.3.1 (XCUP, XRMD).
 abbrev pub further_verbs : List Bytes
@@ -162,8 +162,8 @@ is_empty_value None = false
 is_empty_value (Some v) = length v == 0
 
 -- A part of a command's line is not shown: a secret, a verb that is not listed, or arguments that
--- are hidden, also where there are none; a text that SYST and HELP ignore; or a parameter with an
--- invalid line ending, which TYPE, EPSV and ALLO ignore.
+-- are hidden, also where there are none. So it is with a text that SYST and HELP ignore, and with a
+-- parameter with an invalid line ending, which TYPE, EPSV and ALLO ignore.
 abbrev pub hides_by : Option Ruled → Bytes → Bool
 hides_by (Some verbs_of.Syst) line = not (is_empty_value (value_of (parameter_of line)))
 hides_by (Some verbs_of.Help) line = not (is_empty_value (value_of (parameter_of line)))

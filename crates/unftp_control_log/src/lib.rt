@@ -106,22 +106,27 @@ fn logged_refusal<'a>(refused: ParseErrorKind, line: &'a [u8]) -> Logged<'a>
 /// MODE, PROT, AUTH, OPTS, PBSZ and REST have the value of their command, and SYST and HELP none.
 /// The value of PASS and ACCT is `***`, also an empty one (RFC 959, section 4.1.1).
 ///
-/// A verb with no rule of its own may be a mistyped PASS, or a password: it is `***`, unless it is
-/// a word of the registry of FTP's commands (RFC 5797, section 3), ALGS (RFC 6384) or HOST (RFC
-/// 7151), with `***` for its arguments, also where it has none. So it is with the subcommands of
-/// SITE but CHMOD, IDLE, MD5, UMASK and UTIME, whose arguments are shown. A refused line is
-/// `refused`, its verb where it is such a word or has a rule, and the words of the error, such as
-/// `Invalid command`, `Non-UTF8 character while parsing`, `Invalid end-of-line` or `Line too long`:
-/// so a log shows of a password that it has an invalid line ending. Nothing else is shown of the
-/// parameter, nor anything of that of a line whose own verb hides it, with whatever event.
+/// A verb with no rule of its own may be a mistyped PASS, or a password: it is `***`. The words of
+/// the registry of FTP's commands (RFC 5797, section 3), ALGS (RFC 6384), HOST (RFC 7151), XCUP and
+/// XRMD (RFC 1123) are shown, with `***` for their arguments, also where there are none. So it is
+/// with the subcommands of SITE but CHMOD, IDLE, MD5, UMASK and UTIME, whose arguments are shown.
+///
+/// A refused line is `refused`, its verb where it is such a word or has a rule, and the words of
+/// the error, such as `Invalid command`, `Non-UTF8 character while parsing` or
+/// `Invalid end-of-line`. So a log shows of a password that it has an invalid line ending. Nothing
+/// else is shown of the parameter, nor anything of that of a line whose own verb hides it, with
+/// whatever event.
 ///
 /// It takes no memory but what `buf` needs, and fails only where `buf` lacks room for the line and
 /// can't grow: `buf` is then as it was. Nothing that is hidden is written to `buf`, not even to be
 /// removed again.
 pub fn write_log_line(event: &Event, line: &[u8], buf: &mut Vec<u8>) -> Result<(), AllocError>
+    // At `Ok` exactly the log line of the event is appended.
     ensures ok { OnOk result
         (buf.new.items ≡ buf.old.items ++ log_line (event_meant event.now) line.now) }
+    // At an error `buf` stays the same.
     ensures err { OnErr result (buf.new.items ≡ buf.old.items) }
+    // It is out of memory only where `buf` lacks room for exactly the log line.
     ensures memory { OnErr result
         (LacksRoom buf.old (log_line (event_meant event.now) line.now)) }
 {
@@ -133,14 +138,18 @@ pub fn write_log_line(event: &Event, line: &[u8], buf: &mut Vec<u8>) -> Result<(
 /// there is no memory for a command. `line` is a line of any length, with its line feed or without
 /// one.
 ///
-/// It returns whether a part of the line is not shown: a refused line, a secret, a verb that is not
-/// shown, the arguments of a verb or a subcommand that hides them, also where it has none, a text
-/// that SYST and HELP ignore, and a parameter with an invalid line ending. A server may repeat such
-/// a part in its reply.
+/// It returns whether a part of the line is not shown. Such parts are a refused line, a secret, a
+/// verb that is not shown, and the arguments of a verb or a subcommand that hides them, also where
+/// it has none. So are a text that SYST and HELP ignore, and a parameter with an invalid line
+/// ending. A server may repeat such a part in its reply.
 pub fn write_log_of(line: &[u8], buf: &mut Vec<u8>) -> Result<bool, AllocError>
+    // At `Ok` exactly the log line of the line's event, without a limit, is appended.
     ensures ok { OnOk result (buf.new.items ≡ buf.old.items ++ logged None line.now) }
+    // At `Ok` it returns whether a part of the line is not shown.
     ensures hides { IfOk result (λ part. part ≡ hides_part None line.now) }
+    // At an error `buf` stays the same.
     ensures err { OnErr result (buf.new.items ≡ buf.old.items) }
+    // It is out of memory only where `buf` lacks room for exactly the log line.
     ensures memory { OnErr result (LacksRoom buf.old (logged None line.now)) }
 {
     let mut digits = Buffer::new();

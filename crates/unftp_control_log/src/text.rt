@@ -41,9 +41,13 @@ fn are_plain(text: &[u8]) -> bool
 /// memory, for a caller that removes it then. The buffer grows once at most, and only where it
 /// lacks room for them.
 pub fn append_shown(text: &[u8], buf: &mut Vec<u8>) -> Result<(), AllocError>
+    // At `Ok` exactly the escaped text is appended.
     ensures ok { OnOk result (buf.new.items ≡ buf.old.items ++ shown text.now) }
+    // At `Ok` and at an error the earlier bytes of `buf` stay the same.
     ensures kept { take (vec_len buf.old) buf.new.items ≡ buf.old.items }
+    // It is out of memory only where `buf` lacks room for exactly the escaped text.
     ensures memory { OnErr result (LacksRoom buf.old (shown text.now)) }
+    // The buffer's capacity never falls.
     ensures capacity { vec_capacity buf.old ≤ vec_capacity buf.new }
 {
     if are_plain(text) {

@@ -8,8 +8,8 @@ ghost use Rattle.unftp_control_log.specs.LogLine.{further_verbs, is_listed, show
 use unftp_control_defs::verb::verb_named;
 
 /// Whether a log shows this verb, in letters of any case: one with a rule of its own, or another of
-/// the registry of FTP's commands (RFC 5797, section 3; ALGS is of RFC 6384, HOST of RFC 7151, XCUP
-/// and XRMD of RFC 1123, section 4.1.3.1). No memory is taken.
+/// the registry of FTP's commands (RFC 5797, section 3). ALGS is of RFC 6384, HOST of RFC 7151,
+/// XCUP and XRMD of RFC 1123, section 4.1.3.1. No memory is taken.
 pub(crate) fn is_listed(verb: &[u8]) -> bool
     ensures { result ≡ is_listed verb.now }
 {

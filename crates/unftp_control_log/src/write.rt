@@ -156,9 +156,12 @@ fn append_exchange(exchange: &Exchange, buf: &mut Vec<u8>) -> Result<(), AllocEr
 /// It takes no memory but what `buf` needs, and fails only where `buf` has no room for the line and
 /// can't grow. `buf` is then as it was.
 pub fn write_exchange(exchange: &Exchange, buf: &mut Vec<u8>) -> Result<(), AllocError>
+    // At `Ok` exactly the exchange's line is appended. A reply without a text is only its code.
     ensures ok { OnOk result
         (buf.new.items ≡ buf.old.items ++ exchange_line (entry_of exchange.now)) }
+    // At an error `buf` stays the same.
     ensures err { OnErr result (buf.new.items ≡ buf.old.items) }
+    // It is out of memory only where `buf` lacks room for exactly the exchange's line.
     ensures memory { OnErr result (LacksRoom buf.old (exchange_line (entry_of exchange.now))) }
 {
     let length = buf.len();
