@@ -78,9 +78,9 @@ stage_after_all accepts stage [] = stage
 stage_after_all accepts stage (event ∷ events) =
     stage_after_all accepts (stage_after accepts stage event) events
 
--- What the gate does with an event: it answers it itself, by which a login may be refused; it logs
--- this name in, of which the handler learns by USER; or it passes the event on, and all replies to
--- it are the handler's.
+-- What the gate does with an event: it answers it itself, by which a login may be refused; or it
+-- logs this name in, of which the handler learns by USER. Or it passes the event on, and all
+-- replies to it are the handler's.
 pub data GateDecision : Type 0 where
   Answers : FtpReply → GateDecision
   Refuses : FtpReply → GateDecision
@@ -156,9 +156,9 @@ asked_at step name event = []
 abbrev pub questions : Stage → FtpEvent → List HandlerCall
 questions stage event = asked_at (login_step stage.progress (role_in event)) stage.name event
 
--- The accounts, which stay; how many more logins may fail, if they are limited; how far the login
--- has come; whether QUIT has come; whether the event at hand was passed on; and what the handler
--- keeps.
+-- The accounts, which stay; how many more logins may fail, if they are limited; and how far the
+-- login has come. Then whether QUIT has come; whether the event at hand was passed on; and what the
+-- handler keeps.
 pub record Gated (S : Type 0) : Type 0 where
   pub accepts : Accounts
   pub left : Option ℕ
@@ -178,6 +178,8 @@ passed_steps s steps = map (λ step. (step.0, record s { inner = step.1 })) step
 abbrev pub further_calls : {S : Type 0} → Gated S → Plan S
 further_calls s = if s.passed then (AsksFurther, s.inner) ∷ [] else []
 
+-- The law of a gate. Its errors are those of the calls for an event: the handler's, or out of
+-- memory for a reply of the gate's own.
 abbrev pub gated_law : {S : Type 0} → SessionLaw S → SessionLaw (Gated S)
 gated_law law = record {
   says = λ s event. reply_by law s.inner (decides s event);

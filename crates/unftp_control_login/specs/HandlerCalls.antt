@@ -8,9 +8,9 @@ use Rattle.unftp_control_defs.specs.Run.{SessionLaw}
 use Rattle.unftp_control_message.specs.ErrorMeaning.{fault_of}
 use Rattle.unftp_control_message.specs.declared.reply.error.ControlChanError.{ControlChanError}
 
--- The accounts are asked whether the second, a password, is that of the first, a name; the handler
--- receives an event; it is asked for the next of the replies that follow; memory is asked for a
--- reply.
+-- The accounts are asked whether the second, a password, is that of the first, a name. The handler
+-- receives an event; or it is asked for the next of the replies that follow. Or memory is asked for
+-- a reply.
 pub data HandlerCall : Type 0 where
   Asks : Bytes → Bytes → HandlerCall
   Passes : FtpEvent → HandlerCall

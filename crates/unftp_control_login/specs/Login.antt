@@ -17,10 +17,10 @@ use Rattle.unftp_control_login.specs.declared.stage.Role.TheVariants.{Closed, Fl
 abbrev pub Accounts : Type 0
 Accounts = Bytes → Bytes → Bool
 
--- What is done without a login, beside USER, PASS and AUTH, by the number of the verb: QUIT (RFC
--- 959, section 4.1.1); the security of the connection, which comes before the login (RFC 4217,
--- sections 4 and 9); HELP, which RFC 959 suggests to allow before USER, NOOP and SYST (section
--- 4.1.3); FEAT (RFC 2389, section 3).
+-- What is done without a login, beside USER, PASS and AUTH, by the number of the verb. It is QUIT
+-- (RFC 959, section 4.1.1); the security of the connection, which comes before the login (RFC 4217,
+-- sections 4 and 9); and FEAT (RFC 2389, section 3). So it is with HELP, which RFC 959 suggests to
+-- allow before USER, NOOP and SYST (section 4.1.3).
 abbrev pub is_open : ℕ → Bool
 is_open n = (n == number verb.Quit) || ((n == number verb.Pbsz) || ((n == number verb.Prot)
     || ((n == number verb.Feat) || ((n == number verb.Help) || ((n == number verb.Noop)

@@ -11,5 +11,6 @@ pub trait Accounts {
     /// The answer depends only on the accounts, the name and the password, so it is the same
     /// however often it is asked. Nothing is said of how long it takes.
     fn accepts(&self, name: &[u8], password: &[u8]) -> bool
+        // The answer depends only on the accounts, the name and the password.
         ensures { result ≡ accepts self.now name.now password.now };
 }

@@ -40,8 +40,8 @@ use unftp_control_serve::{Event, Session};
 ///   logged in. It is asked for all its replies to that, and they are dropped. It receives USER at
 ///   no other time, and never PASS.
 /// - A command that is passed on has the handler's replies, and no other has more than one reply.
-/// - With a limit it counts the logins that fail: each PASS that it answers 530 or 503. The last one
-///   that may fail is answered 421, and ends the session (RFC 959, section 5.4). A login that
+/// - With a limit it counts the logins that fail: each PASS that it answers 530 or 503. The last
+///   one that may fail is answered 421, and ends the session (RFC 959, section 5.4). A login that
 ///   succeeds doesn't change the count.
 /// - It is done after QUIT, after that 421, and where the handler is.
 #[derive(Drop)]
@@ -57,13 +57,21 @@ pub struct Gate<A: Accounts, H: Session> {
 impl<A: Accounts, H: Session> Gate<A, H> {
     /// A gate before the first event, over this handler. Any number of logins may fail.
     pub fn new(accounts: A, inner: H) -> Gate<A, H>
+        // The gate asks these accounts.
         ensures accounts { result.accounts.accounts ≡ accounts }
+        // They were asked nothing so far.
         ensures questions { result.accounts.questions ≡ [] }
+        // Any number of logins may fail.
         ensures left { result.limit.left ≡ None }
+        // No name was given.
         ensures stage { result.stage ≡ nobody }
+        // QUIT has not come.
         ensures quit { result.quit ≡ false }
+        // No event was passed on.
         ensures passed { result.passed ≡ false }
+        // The handler is this one.
         ensures inner { result.inner.handler ≡ inner }
+        // No reply of the gate's own has run out of memory.
         ensures failures { result.inner.refused ≡ 0 }
     {
         Gate {
@@ -81,6 +89,7 @@ impl<A: Accounts, H: Session> Gate<A, H> {
 
     /// The same gate, of which no more logins may fail than this.
     pub fn with_limit(self, limit: LoginLimit) -> Gate<A, H>
+        // The gate is the same but for its limit.
         ensures { result ≡ record self { limit = limit } }
     {
         Gate { limit, ..self }
@@ -88,6 +97,7 @@ impl<A: Accounts, H: Session> Gate<A, H> {
 
     /// The handler.
     pub fn handler(&self) -> &H
+        // The handler is the one that the gate has.
         ensures { result.now ≡ self.now.inner.handler }
     {
         self.inner.handler()
@@ -266,16 +276,24 @@ impl<A: Accounts, H: Session> Session for Gate<A, H> {
     /// received USER and was asked for all replies to that. Then memory was asked for the gate's
     /// own reply, if it has one: an error is returned where one of these failed (`calls`).
     fn first(&mut self, alloc: Global, event: Event) -> Result<Reply, ControlChanError>
+        // The list of what the session had heard stays, and may have more at its end.
         ensures heard { Begins (H.heard self.new.inner.handler) (H.heard self.old.inner.handler) }
+        // The first reply, the state after it and the errors that may come are those of the gate's
+        // law, whatever is heard later.
         ensures answers { (heard : List H.Heard) → Begins heard (H.heard self.new.inner.handler)
             → FirstAnswer (asked_law (H.law heard)) (asked_gate A.accepts H.state self.old)
             (asked_gate A.accepts H.state self.new) (failures_of H.failures self.old.inner)
             (failures_of H.failures self.new.inner) (event_meant event) result }
+        // At `Ok` and at an error alike, the accounts were asked once about a password that came
+        // after a name, and nothing at other events.
         ensures asked { self.new.accounts.questions ≡ self.old.accounts.questions
             ++ questions self.old.stage (event_meant event) }
+        // At `Ok` each call that follows from the gate's decision was made once. At an error one of
+        // them failed, and none was made after it.
         ensures calls { (heard : List H.Heard) → Begins heard (H.heard self.new.inner.handler)
             → GateCalled H.failures (H.law heard) (gated A.accepts H.state self.old)
             self.old.inner (event_meant event) self.new.inner result }
+        // An event that fails logs nobody in.
         ensures nobody { OnErr result (IsTrue (is_logged_in self.new.stage.progress)
             → IsTrue (is_logged_in self.old.stage.progress)) }
     {
@@ -290,14 +308,21 @@ impl<A: Accounts, H: Session> Session for Gate<A, H> {
     /// The handler's next reply to an event that was passed on, for which it is asked, once
     /// (`calls`). To any other event no reply follows.
     fn further(&mut self, alloc: Global) -> Result<Option<Reply>, ControlChanError>
+        // The list of what the session had heard stays, and may have more at its end.
         ensures heard { Begins (H.heard self.new.inner.handler) (H.heard self.old.inner.handler) }
+        // The next reply, or `None`, the state after it and the errors that may come are those of
+        // the gate's law, whatever is heard later.
         ensures answers { (heard : List H.Heard) → Begins heard (H.heard self.new.inner.handler)
             → FurtherAnswer (asked_law (H.law heard)) (asked_gate A.accepts H.state self.old)
             (asked_gate A.accepts H.state self.new) (failures_of H.failures self.old.inner)
             (failures_of H.failures self.new.inner) (λ state. H.left state.gate.inner) result }
+        // The accounts and what they were asked, the limit, the login and whether QUIT has come
+        // stay the same.
         ensures kept { (self.new.accounts ≡ self.old.accounts)
             × (self.new.limit ≡ self.old.limit) × (self.new.stage ≡ self.old.stage)
             × (self.new.quit ≡ self.old.quit) }
+        // The handler was asked for its next reply, once, where the event was passed on, and else
+        // nothing was called.
         ensures calls { (heard : List H.Heard) → Begins heard (H.heard self.new.inner.handler)
             → GateAsked H.failures (H.law heard) (gated A.accepts H.state self.old)
             self.old.inner self.new.inner result }

@@ -20,9 +20,9 @@ use unftp_control_message::reply::{Reply, ReplyCode};
 use unftp_control_serve::{Event, Session};
 
 /// The handler after another one. It is private, and each event that it receives is recorded, and
-/// each time that it is asked for a reply that follows; so is each reply of that other one for
-/// which memory is asked here, and those that are refused are counted. The list and the count take
-/// no byte, and only contracts see them.
+/// each time that it is asked for a reply that follows. So is each reply of that other one for
+/// which memory is asked here, and those that run out of memory are counted. The list and the count
+/// take no byte, and only contracts see them.
 #[derive(Drop)]
 pub(crate) struct Inner<H: Session> {
     handler: H,

@@ -11,7 +11,9 @@ pub struct LoginLimit {
 impl LoginLimit {
     /// So many logins may fail, and the last of them ends the session. It has to be at least 1.
     pub fn new(limit: u32) -> LoginLimit
+        // At least one login may fail.
         requires { 1 ≤ limit }
+        // So many logins may fail.
         ensures { result.left ≡ Some limit }
     {
         LoginLimit { left: Some(limit) }

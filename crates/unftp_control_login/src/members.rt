@@ -32,20 +32,22 @@ pub fn serve_members<R: Read, W: Write, A: Accounts, H: Session>(
     writer: &mut Output<W>,
     gate: &mut Gate<A, H>,
 ) -> Result<Served, ServeError>
+    // A line may have at least one byte.
     requires { 1 ≤ line_limit }
-    // At Ok exactly the replies to the lines that were read are written, by all that was heard, and
-    // the accounts were asked what `accounts_are_asked_once` says.
+    // At `Ok` exactly the replies to the lines that were read are written and flushed. The gate is
+    // in the state after them, with what its accounts were asked.
     ensures serves { IfOk result (Serves (Some line_limit)
         (asked_law (H.law (H.heard gate.new.inner.handler)))
         (gate_snapshot A.accepts H.state H.failures W.contents gate.old writer.old)
         (gate_snapshot A.accepts H.state H.failures W.contents gate.new writer.new)
         (input_state_of R.remaining reader.old) (input_state_of R.remaining reader.new)) }
-    // a client reads these replies, and nothing else, where each of them is plain
+    // At `Ok` a client reads these replies, and nothing else, where each of them is plain.
     ensures read_back { OnOk result (AreReadBack (Some line_limit)
         (asked_law (H.law (H.heard gate.new.inner.handler)))
         (asked_gate A.accepts H.state gate.old)
         (input_state_of R.remaining reader.old) (input_state_of R.remaining reader.new)) }
-    // to what needs a login, a reply that reports no failure comes only after one
+    // At `Ok`, where the gate was before its first event and its handler gives readable exchanges,
+    // a reply with a code below 400 to what needs a login comes only after one.
     ensures members { IsClosed (gated A.accepts H.state gate.old)
         → SendsPlainExchanges (H.law (H.heard gate.new.inner.handler))
         (H.state gate.old.inner.handler) → OnOk result ((read written : Bytes)
@@ -54,8 +56,10 @@ pub fn serve_members<R: Read, W: Write, A: Accounts, H: Session>(
         × HasWritten (output_state_of W.contents writer.old) (output_state_of W.contents writer.new)
         written
         × MembersAlone (Some line_limit) (A.accepts gate.old.accounts.accounts) read written) }
+    // At `Ok` the buffer has held at most the limit on a line and 4,096 bytes.
     ensures bound { IfOk result (λ served. served.held ≤ line_limit + 4096) }
-    // and what is so at each error
+    // At an error all lines before the last piece that was read were answered, and after a failed
+    // read those of this piece too. `ServeEnded` has what each error leaves.
     ensures err { IfErr result (ServeEnded (Some line_limit)
         (asked_law (H.law (H.heard gate.new.inner.handler)))
         (gate_snapshot A.accepts H.state H.failures W.contents gate.old writer.old)

@@ -52,6 +52,8 @@ pub enum LoginStep {
 impl Role {
     /// That of a command, by the number of its verb. A number of no verb needs a login.
     pub fn of(number: u32) -> Role
+        // USER is `Name`, PASS `Password`, AUTH `Flush`, a command that needs no login `Open`, and
+        // any other number `Closed`.
         ensures { result ≡ role_of number }
     {
         match number {
@@ -89,6 +91,8 @@ fn is_open(number: u32) -> bool
 impl Progress {
     /// What is done with an event.
     pub fn step(self, role: Role) -> LoginStep
+        // USER needs a password, and PASS asks the accounts after a name, or else needs one. A
+        // command that needs a login passes only after it, and all else passes.
         ensures { result ≡ login_step self role }
     {
         match (role, self) {
@@ -103,6 +107,8 @@ impl Progress {
 
     /// How far it has come after an event.
     pub fn after(self, role: Role) -> Progress
+        // USER makes it `Named`, AUTH `NoName`, and PASS after a name `Asked`. At any other event
+        // it stays, but `Asked` becomes `NoName`.
         ensures { result ≡ login_after self role }
     {
         match (role, self) {
@@ -116,6 +122,8 @@ impl Progress {
     /// How far it has come after an answer of the accounts. One that nothing asked for changes
     /// nothing.
     pub fn answered(self, accepted: bool) -> Progress
+        // `Asked` becomes `LoggedIn` where the password is accepted, and else `NoName`. Any other
+        // progress stays.
         ensures { result ≡ after_answer accepted self }
     {
         match self {
