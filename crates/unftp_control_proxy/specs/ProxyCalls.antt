@@ -75,7 +75,7 @@ abbrev pub waits : ProxyState → Bool
 waits proxy = nat_le proxy.limits.waiting (server_owes proxy.dialogue)
     || (is_some proxy.answer || awaits_tls proxy.dialogue)
 
--- The client's first line may have been looked for, and nothing else has changed. No byte is
+-- The client's first line may have been searched, and nothing else has changed. No byte is
 -- scanned twice.
 pub record IsScannedFor (before later : ProxyState) : Type 0 where
   pub same : later ≡ record before { client = later.client }
@@ -245,7 +245,7 @@ pub record IsGiven (proxy : ProxyState) : Type 0 where
   pub no_reply : FindsFirst proxy.server.limit proxy.server.bytes (Ok None)
   pub settled : proxy.server.buffered ≡ length proxy.server.bytes
 
--- There is nothing to be given, and what was given leaves the buffer; or the answer that is due is
+-- There is nothing to be given, and what was given leaves the buffer. Or the answer that is due is
 -- given; or the reply that is owed next, as it came; or a reply came that is not owed, and stays.
 abbrev pub GivesNext : ProxyState → Option NextReply → Bytes → Bytes → ProxyState → Type 0
 GivesNext before None out out' later =

@@ -89,7 +89,9 @@ impl Model for Proxy {
 impl Proxy {
     /// A proxy that was given nothing. The client is owed the server's greeting first.
     pub fn new(alloc: Global, limits: Limits) -> Proxy
+        // The limits on the client's lines, on replies and on what is owed are at least 1.
         requires { (1 ≤ limits.line) × (1 ≤ limits.reply) × (1 ≤ limits.waiting) }
+        // Nothing came, was sent or was given, and the greeting is owed.
         ensures { result ≡ new_proxy limits }
     {
         Proxy {
@@ -104,10 +106,15 @@ impl Proxy {
     /// A piece of what the client sent. When out of memory, nothing changes; it only is where the
     /// buffer would hold more bytes than it ever did, and never for an empty piece.
     pub fn from_client(&mut self, piece: &[u8]) -> Result<(), AllocError>
+        // At `Ok` the piece follows the client's bytes. At most its length more is held, and lines
+        // that were taken may have left the buffer.
         ensures ok { OnOk result
             (self.new ≡ record self.old { client = pushed self.old.client piece.now }) }
+        // At an error nothing changes.
         ensures err { OnErr result (self.new ≡ self.old) }
+        // It is never out of memory for an empty piece.
         ensures some { OnErr result (¬ (piece.now ≡ [])) }
+        // It is out of memory only where the buffer would hold more bytes than it ever did.
         ensures memory { OnErr result
             (self.old.client.held < self.old.client.buffered + length piece.now) }
     {
@@ -117,10 +124,15 @@ impl Proxy {
     /// A piece of what the server sent. When out of memory, nothing changes; it only is where the
     /// buffer would hold more bytes than it ever did, and never for an empty piece.
     pub fn from_server(&mut self, piece: &[u8]) -> Result<(), AllocError>
+        // At `Ok` the piece follows the server's bytes. At most its length more is held, and
+        // replies that were given may have left the buffer.
         ensures ok { OnOk result
             (self.new ≡ record self.old { server = pushed_reply self.old.server piece.now }) }
+        // At an error nothing changes.
         ensures err { OnErr result (self.new ≡ self.old) }
+        // It is never out of memory for an empty piece.
         ensures some { OnErr result (¬ (piece.now ≡ [])) }
+        // It is out of memory only where the buffer would hold more bytes than it ever did.
         ensures memory { OnErr result
             (self.old.server.held < self.old.server.buffered + length piece.now) }
     {
@@ -130,6 +142,8 @@ impl Proxy {
     /// Whether no line is taken now: the server owes as many replies as it may; or an answer is not
     /// given yet; or AUTH TLS has no reply yet. Nothing should be read from the client then.
     pub fn waits_for_server(&self) -> bool
+        // It is true exactly where the server owes as many replies as it may, an answer is held, or
+        // a line that asks for TLS has no final reply.
         ensures { result ≡ waits self.now }
     {
         self.owes_all() || !self.order.may_take()
@@ -146,6 +160,7 @@ impl Proxy {
     /// How far the dialogue with the server has come: how many replies it owes (`owed`), and
     /// whether it has agreed to begin TLS (`agreed`).
     pub fn dialogue(&self) -> Dialogue
+        // The dialogue is the one with the server.
         ensures { result ≡ self.now.dialogue }
     {
         self.order.dialogue
@@ -159,9 +174,15 @@ impl Proxy {
     /// Where it returns `None`, fewer bytes of the client are held than a line may have: so where
     /// it does before each piece, never more than the limit and one piece.
     pub fn next_line(&mut self) -> Option<ClientLine>
+        // The result is what the client's first line is, `Complete` or `TooLong`, or `None` where
+        // no line is complete.
         ensures next { result
             ≡ first_client_line self.old.client.limit (lines_of self.old.client.bytes) }
+        // At `Some` the first line is found. At `None` only the incomplete line is held of the
+        // client's bytes, or nothing of one that is too long.
         ensures client { self.new.client ≡ found_as self.old.client result self.new.client.scanned }
+        // The client's bytes and all else stay the same, and no byte is scanned for a line feed
+        // twice.
         ensures same { IsScannedFor self.old self.new }
     {
         self.client.find_line()
@@ -170,6 +191,8 @@ impl Proxy {
     /// The line that `next_line` found, as it came; empty where it is too long, and where none was
     /// found.
     pub fn line(&self) -> &[u8]
+        // The bytes are the line that was found. There are none where it is too long, and where no
+        // line was found.
         ensures { result.now ≡ line_in self.now.client }
     {
         self.client.found_line()
@@ -185,23 +208,33 @@ impl Proxy {
     /// Decides the line: it is forwarded as its command, as `forward` of `unftp_control_write`
     /// does.
     ///
-    /// `NoLine` where no line may be decided, `NotALine` where it is too long, `Refused` where it
-    /// is no command, and `Unclear` where servers read what would be sent in different ways, as
-    /// with a Telnet byte. `TooLong` where that is longer than what may be sent, `OutOfMemory`
-    /// where `to_server` has no room for it and can't grow, and `TooManyCommands` where 2^64 - 1
-    /// lines were sent. At an error the line is still to be decided, and nothing is appended.
+    /// `NoLine` where no line may be decided, `NotALine` where it is too long, and `Refused` where
+    /// it is no command. `Unclear` where servers read what would be sent in different ways, as with
+    /// a Telnet byte. `TooLong` where that is longer than what may be sent, `OutOfMemory` where
+    /// `to_server` has no room for it and can't grow, and `TooManyCommands` where 2^64 - 1 lines
+    /// were sent. At an error the line is still to be decided, and nothing is appended.
     pub fn forward(&mut self, to_server: &mut Vec<u8>) -> Result<(), SendError>
+        // At `Ok` exactly the forwarded line is appended, which is read as the command of the
+        // client's line.
         ensures ok { OnOk result
             (IsForwarded (line_in self.old.client) to_server.old.items to_server.new.items) }
+        // At `Ok` the client's line is taken, and what was appended is the line sent for it.
         ensures decided { OnOk result (self.new ≡ after_fate self.old
             (SentAs (drop (vec_len to_server.old) to_server.new.items))) }
+        // It is `Ok` only where a line was found and the proxy didn't wait for the server.
         ensures may { OnOk result (IsDecidable self.old) }
+        // It is `Ok` only for a line that is not too long.
         ensures shown { OnOk result (line_in self.old.client ≢ []) }
+        // At `Ok` one clear line was appended, no longer than a line that is sent may be.
         ensures sent { OnOk result (MayBeSent self.old.limits.sent
             (drop (vec_len to_server.old) to_server.new.items)) }
+        // Each error comes only for its reason, `OutOfMemory` only where `to_server` lacks room for
+        // the forwarded line.
         ensures why { IfErr result
             (IsForwardingError self.old (line_in self.old.client) to_server.old) }
+        // At an error the proxy stays the same.
         ensures err { OnErr result (self.new ≡ self.old) }
+        // At an error `to_server` stays the same.
         ensures out_err { OnErr result (to_server.new.items ≡ to_server.old.items) }
     {
         if !self.is_decidable() {
@@ -221,19 +254,27 @@ impl Proxy {
     /// Decides the line: the line itself is sent, as it came, also one that is refused, as `OPTS
     /// MLST size`.
     ///
-    /// `Unclear` as with `forward`, of the line itself, and where it ends by LF alone: some servers
-    /// send no reply to that, and each later reply would be given to another line. Else as
+    /// `Unclear` as with `forward`, of the line itself, and where it ends by LF without a CR: some
+    /// servers send no reply to that, and each later reply would be given to another line. Else as
     /// `forward`.
     pub fn send_as_it_is(&mut self, to_server: &mut Vec<u8>) -> Result<(), SendError>
+        // At `Ok` the client's line is taken, and is the line sent for it.
         ensures ok { OnOk result
             (self.new ≡ after_fate self.old (SentAs (line_in self.old.client))) }
+        // It is `Ok` only where a line was found and the proxy didn't wait for the server.
         ensures may { OnOk result (IsDecidable self.old) }
+        // At `Ok` exactly the client's line is appended.
         ensures appended { OnOk result
             (to_server.new.items ≡ to_server.old.items ++ line_in self.old.client) }
+        // It is `Ok` only for one clear line, no longer than a line that is sent may be.
         ensures sent { OnOk result
             (MayBeSent self.old.limits.sent (line_in self.old.client)) }
+        // Each error comes only for its reason, `OutOfMemory` only where `to_server` lacks room for
+        // the line.
         ensures why { IfErr result (IsSendError self.old (line_in self.old.client) to_server.old) }
+        // At an error the proxy stays the same.
         ensures err { OnErr result (self.new ≡ self.old) }
+        // At an error `to_server` stays the same.
         ensures out_err { OnErr result (to_server.new.items ≡ to_server.old.items) }
     {
         let line = self.client.found_line();
@@ -245,12 +286,20 @@ impl Proxy {
     /// Decides the line: another one is sent in its place, as PORT with another address. Else as
     /// `send_as_it_is`, of that line; `NotALine` where it is not one.
     pub fn replace(&mut self, other: &[u8], to_server: &mut Vec<u8>) -> Result<(), SendError>
+        // At `Ok` the client's line is taken, and the other one is the line sent for it.
         ensures ok { OnOk result (self.new ≡ after_fate self.old (SentAs other.now)) }
+        // It is `Ok` only where a line was found and the proxy didn't wait for the server.
         ensures may { OnOk result (IsDecidable self.old) }
+        // At `Ok` exactly the other line is appended.
         ensures appended { OnOk result (to_server.new.items ≡ to_server.old.items ++ other.now) }
+        // It is `Ok` only for one clear line, no longer than a line that is sent may be.
         ensures sent { OnOk result (MayBeSent self.old.limits.sent other.now) }
+        // Each error comes only for its reason, `OutOfMemory` only where `to_server` lacks room for
+        // the other line.
         ensures why { IfErr result (IsSendError self.old other.now to_server.old) }
+        // At an error the proxy stays the same.
         ensures err { OnErr result (self.new ≡ self.old) }
+        // At an error `to_server` stays the same.
         ensures out_err { OnErr result (to_server.new.items ≡ to_server.old.items) }
     {
         self.check(other)?;
@@ -264,16 +313,25 @@ impl Proxy {
     ///
     /// Never `Unclear`. Else as `send_as_it_is`.
     pub fn send_unclear(&mut self, to_server: &mut Vec<u8>) -> Result<(), SendError>
+        // At `Ok` the client's line is taken, and is the line sent for it.
         ensures ok { OnOk result
             (self.new ≡ after_fate self.old (SentAs (line_in self.old.client))) }
+        // It is `Ok` only where a line was found and the proxy didn't wait for the server.
         ensures may { OnOk result (IsDecidable self.old) }
+        // At `Ok` exactly the client's line is appended.
         ensures appended { OnOk result
             (to_server.new.items ≡ to_server.old.items ++ line_in self.old.client) }
+        // At `Ok` it is one line, which need not be clear: its only line feed is its last byte.
         ensures sent { OnOk result (IsLine (line_in self.old.client)) }
+        // At `Ok` it is no longer than a line that is sent may be.
         ensures short { OnOk result (length (line_in self.old.client) ≤ self.old.limits.sent) }
+        // Each error comes only for its reason, which is never `Unclear`; `OutOfMemory` only where
+        // `to_server` lacks room for the line.
         ensures why { IfErr result
             (IsUnclearError self.old (line_in self.old.client) to_server.old) }
+        // At an error the proxy stays the same.
         ensures err { OnErr result (self.new ≡ self.old) }
+        // At an error `to_server` stays the same.
         ensures out_err { OnErr result (to_server.new.items ≡ to_server.old.items) }
     {
         if !self.is_decidable() {
@@ -354,11 +412,17 @@ impl Proxy {
     /// `NotFinal` where another reply to the same line would have to follow, and `NotPlain` where a
     /// client would not read it as one reply. At an error nothing changes.
     pub fn answer(&mut self, answer: Answer) -> Result<(), SendError>
+        // At `Ok` the client's line is taken, and the answer is held until it is given.
         ensures ok { OnOk result
             (self.new ≡ after_fate self.old (AnsweredBy (answer_reply answer))) }
+        // It is `Ok` only where a line was found and the proxy didn't wait for the server.
         ensures may { OnOk result (IsDecidable self.old) }
+        // At `Ok` the answer is one final reply, and plain.
         ensures single { OnOk result (is_answer (answer_reply answer) ≡ true) }
+        // `NoLine` comes only where no line may be decided, `NotFinal` only for a reply that is not
+        // final, `NotPlain` only for a final one that is not plain, and no other error.
         ensures why { IfErr result (IsAnswerError self.old (answer_reply answer)) }
+        // At an error the proxy stays the same.
         ensures err { OnErr result (self.new ≡ self.old) }
     {
         if !self.is_decidable() {
@@ -393,10 +457,16 @@ impl Proxy {
         &mut self,
         to_client: &mut Vec<u8>,
     ) -> Result<Option<NextReply>, NextReplyError>
+        // The answer that is due is given, else the reply that is owed next, as it came. A reply
+        // that is not owed is `Unasked`, and stays. At `None` there is nothing to give.
         ensures ok { IfOk result (λ next.
             GivesNext self.old next to_client.old.items to_client.new.items self.new) }
+        // At an error the proxy stays the same.
         ensures err { OnErr result (self.new ≡ self.old) }
+        // At an error `to_client` stays the same.
         ensures out_err { OnErr result (to_client.new.items ≡ to_client.old.items) }
+        // It is `OutOfMemory` only where `to_client` lacks room for the due answer or the reply
+        // owed next. Any other error comes of the server's bytes, with no answer due.
         ensures why { IfErr result (IsNextError self.old to_client.old) }
     {
         let answer = match &self.answer {
@@ -452,7 +522,10 @@ impl Proxy {
     /// The first reply of what the server sent, which `server_pending` begins with; or `None` where
     /// none is complete. It stays. It takes no memory.
     pub fn first_reply(&mut self) -> Result<Option<FirstReply>, NextReplyError>
+        // A reply has the code and the length of the first, within the limit. `None` is a part of
+        // one below the limit, and an error has its reason, which is never `OutOfMemory`.
         ensures finds { FindsFirst self.old.server.limit self.old.server.bytes result }
+        // The proxy stays the same.
         ensures same { self.new ≡ self.old }
     {
         self.server.find_first()
@@ -470,10 +543,16 @@ impl Proxy {
         other: &[u8],
         to_client: &mut Vec<u8>,
     ) -> Result<(), ReplaceError>
+        // At `Ok` exactly these bytes, one whole reply, are appended for the reply of the same code
+        // that is owed next, which is removed.
         ensures ok { OnOk result (GivesOther self.old other.now to_client.old.items
             to_client.new.items self.new) }
+        // At an error the proxy stays the same.
         ensures err { OnErr result (self.new ≡ self.old) }
+        // At an error `to_client` stays the same.
         ensures out_err { OnErr result (to_client.new.items ≡ to_client.old.items) }
+        // Each error comes only for its reason, `OutOfMemory` only where `to_client` lacks room for
+        // these bytes.
         ensures why { IfErr result (IsReplaceError self.old other.now to_client.old) }
     {
         let first = match self.server.find_first() {
@@ -497,6 +576,7 @@ impl Proxy {
     /// What the server sent and was not given: a part of a reply; or, after `Unasked`, what it says
     /// before it closes.
     pub fn server_pending(&self) -> &[u8]
+        // The bytes are all that the server sent and that were not given.
         ensures { result.now ≡ self.now.server.bytes }
     {
         self.server.pending()
@@ -505,6 +585,7 @@ impl Proxy {
     /// What is kept of what the client sent and was not decided: after an AUTH to which the server
     /// agreed, what is for the server as it is (RFC 4217, section 4).
     pub fn client_pending(&self) -> &[u8]
+        // The bytes are those of the client that are kept and not decided.
         ensures { result.now ≡ kept_bytes self.now.client }
     {
         self.client.pending()
@@ -513,6 +594,7 @@ impl Proxy {
     /// Whether the server has agreed to begin TLS, and owes no reply: what is pending of both sides
     /// then, and what comes, is no line and no reply (RFC 4217, section 4).
     pub fn tls_agreed(&self) -> bool
+        // It is true exactly where the server has agreed to begin TLS, and no line is owed a reply.
         ensures { IsTrue result ↔ BeginsTls self.now }
     {
         self.order.dialogue.agreed && self.order.dialogue.owed() == 0

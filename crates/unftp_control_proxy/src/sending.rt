@@ -7,7 +7,7 @@ use crate::errors::SendError;
 use unftp_control_write::{is_clear, is_line};
 
 /// Whether the line may be sent to the server, and if not, why. One that is clear is one line, so
-/// its bytes are looked at once.
+/// its bytes are scanned once.
 #[tactic(auto, using(crate::proofs::SendLemmas::clear_is_line))]
 pub(crate) fn check(limit: usize, line: &[u8]) -> Result<(), SendError>
     ensures ok { IsOk result → MayBeSent limit line.now }
