@@ -95,7 +95,7 @@ abbrev pub failed_reads : NextReply ReceiveError → ℕ
 failed_reads (Err (Read _)) = 1
 failed_reads _ = 0
 
--- Of the pending bytes and those that were read after them: the first reply is taken; or the reader
+-- Of the pending bytes and those that were read after them the first reply is taken. Or the reader
 -- is at its end, and they are a part of a reply; or there is an error, and they stay.
 pub record Receives (before : PendingReplies) (input : InputState)
     (result : NextReply ReceiveError) (after : PendingReplies) (input' : InputState)

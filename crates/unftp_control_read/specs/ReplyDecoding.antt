@@ -106,8 +106,8 @@ FindsFirst limit bytes (Err Malformed) = IsMalformed (within_limit limit bytes)
 FindsFirst limit bytes (Err TooLong) = IsTooLongReply limit bytes
 FindsFirst limit bytes (Err OutOfMemory) = ⊥
 
--- How many of the n bytes that a reply may have are scanned: those from the offset on, to the end of
--- the reply that is found, or else all; and then none of them has to be scanned again. A line that
+-- How many of the n bytes that a reply may have are scanned: those from the offset on, to the end
+-- of the reply that is found, or else all. Where all are, none has to be scanned again. A line that
 -- opens no reply is scanned again.
 abbrev pub FindsByScan : Search → ℕ → Result (Option FirstReply) NextReplyError → Search
     → Type 0

@@ -60,7 +60,7 @@ EndsBefore bytes after Partial = ⊥
 EndsBefore bytes after Malformed = ⊤
 
 -- How many of n bytes are scanned: those from the offset on, to the end of the reply that is found,
--- or where it is a part, all; and then none has to be scanned again. A line that opens no reply is
+-- or where it is a part, all. Of a part none has to be scanned again. A line that opens no reply is
 -- scanned again.
 abbrev pub HasScanned : Search → ℕ → FoundReply → Search → Type 0
 HasScanned before n (Whole code used) after = (after.scanned + before.offset ≡ before.scanned + used)

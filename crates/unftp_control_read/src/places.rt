@@ -40,7 +40,7 @@ pub fn line_at(reply: &[u8], at: usize) -> Option<LinePlace>
     })
 }
 
-/// Whether the line from `at` to `next` has a code, as the first and the last of so many bytes have.
+/// Whether the line from `at` to `next` has a code, as the first and the last of `len` bytes have.
 fn has_code(at: usize, next: usize, len: usize) -> bool
     ensures { result ≡ (at == 0 || len == next) }
 {
