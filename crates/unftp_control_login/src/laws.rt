@@ -126,7 +126,7 @@ pub fn accounts_stay_hidden<H: Session>()
 /// PASS within the limit, give one output. So a wrong password gives what another user's gives.
 pub fn refused_passwords_look_alike<H: Session>()
     // Two inputs that differ in one canonical PASS line, within the limit and after complete lines,
-    // have one output where both passwords are answered alike.
+    // have one output where both passwords, without a line feed, are answered alike.
     ensures { (heard : List H.Heard) (limit : Option ℕ) (accepts : Accounts)
         (failures : Option ℕ) (inner : H.State) → RefusedPasswordsLookAlike limit accepts
         (gated_law (H.law heard)) (guarded failures accepts inner) }
@@ -134,8 +134,8 @@ pub fn refused_passwords_look_alike<H: Session>()
 
 /// A login that is refused gives the same output whether its name is known or not.
 pub fn refused_logins_look_alike<H: Session>()
-    // Two inputs that differ in the canonical USER and PASS lines of one refused login, within the
-    // limit and after complete lines, have one output.
+    // Two inputs that differ in the canonical USER and PASS lines of one refused login have one
+    // output, within the limit, after complete lines and with no line feed in name or password.
     ensures { (heard : List H.Heard) (limit : Option ℕ) (accepts : Accounts)
         (failures : Option ℕ) (inner : H.State) → RefusedLoginsLookAlike limit accepts
         (gated_law (H.law heard)) (guarded failures accepts inner) }
@@ -144,10 +144,11 @@ pub fn refused_logins_look_alike<H: Session>()
 /// In a session no more logins fail than the limit allows, and the last that may fail is answered
 /// 421, which is the last reply of the session.
 pub fn failed_logins_are_limited<H: Session>()
-    // No more logins of a run fail than the limit allows.
+    // With a limit of at least 1, no more logins of a run fail than it allows.
     ensures count { (heard : List H.Heard) (s : Gated H.State) (left : ℕ) (events : List FtpEvent)
         → s.left ≡ Some left → 1 ≤ left → failed_in_run (gated_law (H.law heard)) s events ≤ left }
-    // Where as many logins fail as the limit allows, 421 is the last reply, and the session ends.
+    // Where as many logins fail as a limit of at least 1 allows, 421 is the last reply, and the
+    // session ends.
     ensures last { (heard : List H.Heard) (s : Gated H.State) (left : ℕ) (events : List FtpEvent)
         → s.left ≡ Some left → 1 ≤ left → failed_in_run (gated_law (H.law heard)) s events ≡ left
         → EndsWith too_many (gated_law (H.law heard)) s events }
@@ -163,8 +164,8 @@ pub fn few_failures_change_nothing<H: Session>()
         (replies_to (gated_law (H.law heard)) (unlimited s) event) ≡ false)
         → replies_to (gated_law (H.law heard)) s event
         ≡ replies_to (gated_law (H.law heard)) (unlimited s) event }
-    // While more than one login may fail, and at each event that is no failed login, the limit
-    // doesn't change whether the session ends.
+    // While at least one more login may fail, the limit changes whether the session ends only at
+    // the last failed login that may.
     ensures done { (heard : List H.Heard) (s : Gated H.State) (left : ℕ) (event : FtpEvent)
         → s.left ≡ Some left → 1 ≤ left → (1 < left) ⊎ (is_failed_login event
         (replies_to (gated_law (H.law heard)) (unlimited s) event) ≡ false)
