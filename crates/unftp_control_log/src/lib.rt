@@ -106,12 +106,13 @@ fn logged_refusal<'a>(refused: ParseErrorKind, line: &'a [u8]) -> Logged<'a>
 /// MODE, PROT, AUTH, OPTS, PBSZ and REST have the value of their command, and SYST and HELP none.
 /// The value of PASS and ACCT is `***`, also an empty one (RFC 959, section 4.1.1).
 ///
-/// A verb with no rule of its own may be a mistyped PASS, or a password: it is `***`. The words of
-/// the registry of FTP's commands (RFC 5797, section 3), ALGS (RFC 6384), HOST (RFC 7151), XCUP and
-/// XRMD (RFC 1123) are shown, with `***` for their arguments, also where there are none. So it is
-/// with the subcommands of SITE but CHMOD, IDLE, MD5, UMASK and UTIME, whose arguments are shown.
+/// A verb with no rule of its own may be a mistyped PASS, or a password: it is `***`. Listed are
+/// the words of the registry of FTP's commands (RFC 5797, section 3), ALGS (RFC 6384), HOST (RFC
+/// 7151) and those of RFC 1123, section 4.1.3.1. They are shown, with `***` for their arguments,
+/// also where there are none. So it is with the listed subcommands of SITE but CHMOD, IDLE, MD5,
+/// UMASK and UTIME, whose arguments are shown. Another subcommand is `***`.
 ///
-/// A refused line is `refused`, its verb where it is such a word or has a rule, and the words of
+/// A refused line is `refused`, its verb where it is listed or has a rule, and the words of
 /// the error, such as `Invalid command`, `Non-UTF8 character while parsing` or
 /// `Invalid end-of-line`. So a log shows of a password that it has an invalid line ending. Nothing
 /// else is shown of the parameter, nor anything of that of a line whose own verb hides it, with
