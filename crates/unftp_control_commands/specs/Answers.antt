@@ -26,6 +26,7 @@ auth_reply false protocol = no_tls
 auth_reply true Tls = CodeAndMsg 234 (codes "Upgrading to TLS")
 auth_reply true Ssl = CodeAndMsg 504 (codes "Auth SSL not implemented")
 
+-- what the session has to do once the reply to AUTH is sent
 abbrev pub auth_change : Bool → AuthParam → SessionChange
 auth_change true Tls = change.SecureControlChannel
 auth_change _ _ = change.Nothing
@@ -37,6 +38,7 @@ prot_reply true Clear = CodeAndMsg 200 (codes "PROT OK. Switching data channel t
 prot_reply true Private = CodeAndMsg 200 (codes "PROT OK. Securing data channel")
 prot_reply true _ = CodeAndMsg 504 (codes "PROT S/E not implemented")
 
+-- what the session has to do once the reply to PROT is sent
 abbrev pub prot_change : Bool → ProtParam → SessionChange
 prot_change true Clear = change.DataTls false
 prot_change true Private = change.DataTls true
@@ -79,11 +81,12 @@ abbrev pub feat_reply_with : List Bytes → FtpReply
 feat_reply_with listed = MultiLine 211
     (codes "Extensions supported:" ∷ map (λ feature. SP ∷ feature) listed ++ codes "END" ∷ [])
 
--- the features in the order of their bytes
+-- the lines where a setting is on, and none where it is off
 abbrev pub when : Bool → List Bytes → List Bytes
 when true lines = lines
 when false lines = []
 
+-- the features in the order of their bytes
 abbrev pub features : Bool → Bool → Bool → List Bytes
 features tls restart site_md5 =
     when tls (codes "AUTH TLS" ∷ [])

@@ -39,7 +39,7 @@ same_type = CodeAndMsg 504 (codes "The representation type stays as it is")
 abbrev pub not_implemented : FtpReply
 not_implemented = CodeAndMsg 502 (codes "Not implemented")
 
--- Of PWD and FEAT a server knows the reply: the path, and its features.
+-- To PWD and FEAT a server has a reply of its own: the path, and its features.
 abbrev pub command_reply : FtpCommand → FtpReply
 command_reply Noop = okay
 command_reply Quit = goodbye
@@ -84,8 +84,8 @@ abbrev pub usual_reply : FtpEvent → FtpReply
 usual_reply (Command command) = command_reply command
 usual_reply (Refused fault) = fault_reply fault.kind fault.source
 
--- A command's, by the number of its verb, and by its value where the reply depends on that: of STRU,
--- MODE and OPTS.
+-- The reply to a command, by the number of its verb, and by its value where the reply depends on
+-- that: for STRU, MODE and OPTS.
 abbrev pub reply_by_value : ℕ → Bytes → FtpReply
 reply_by_value n value =
     if n == number verb.Stru then stru_reply (if bytes_eq value (codes "F") then File else Record) else

@@ -32,21 +32,24 @@ impl Model for Auth {
 impl Auth {
     /// AUTH with this mechanism.
     pub fn new(protocol: AuthParam) -> Auth
+        // The command's mechanism is the one passed in.
         ensures { result ≡ protocol }
     {
         Auth { protocol }
     }
 
-    /// The reply, and what the session has to do once it is sent (RFC 4217, section 4): 234 and TLS
-    /// on the control connection where TLS is configured and asked for, 504 for SSL, and 502 where
-    /// TLS is not configured. It fails only when out of memory, with the kind `OutOfMemory`.
+    /// The reply, and what the session has to do once it is sent (RFC 4217, section 4). For TLS it
+    /// is 234, and TLS on the control connection; for SSL it is 504. Where TLS is not configured it
+    /// is 502. It fails only when out of memory, with the kind `OutOfMemory`.
     pub fn reply(
         &self,
         alloc: Global,
         tls_configured: bool,
     ) -> Result<(Reply, SessionChange), ControlChanError>
+        // At `Ok` the reply and the change are those that the definition gives for this mechanism.
         ensures ok { IfOk result (λ answer. (reply_of answer.0 ≡ auth_reply tls_configured self.now)
             × (answer.1 ≡ auth_change tls_configured self.now)) }
+        // The only error is out of memory.
         ensures err { IfErr result (λ error. fault_of error ≡ out_of_memory) }
     {
         let (code, text, change) = match (tls_configured, &self.protocol) {

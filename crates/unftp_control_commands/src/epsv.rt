@@ -32,7 +32,9 @@ impl Epsv {
     /// 229 with the port, or 502 where EPSV can't name one (RFC 2428, section 3). It fails only
     /// when out of memory, with the kind `OutOfMemory`.
     pub fn reply(&self, alloc: Global, passive: Passive) -> Result<Reply, ControlChanError>
+        // At `Ok` the reply is the definition's for this way of listening.
         ensures ok { IfOk result (λ reply. reply_of reply ≡ epsv_reply passive) }
+        // The only error is out of memory.
         ensures err { IfErr result (λ error. fault_of error ≡ out_of_memory) }
     {
         match passive {
@@ -49,7 +51,9 @@ impl Epsv {
 /// 229 with a port that listens (RFC 2428, section 3). It fails only when out of memory, with the
 /// kind `OutOfMemory`.
 pub fn make_epsv_reply(alloc: Global, port: u16) -> Result<Reply, ControlChanError>
+    // At `Ok` the reply is 229 with this port, as the definition writes it.
     ensures ok { IfOk result (λ reply. reply_of reply ≡ port_reply port) }
+    // The only error is out of memory.
     ensures err { IfErr result (λ error. fault_of error ≡ out_of_memory) }
 {
     let text = format!(in alloc; "Entering Extended Passive Mode (|||{port}|)")?;
@@ -58,6 +62,8 @@ pub fn make_epsv_reply(alloc: Global, port: u16) -> Result<Reply, ControlChanErr
 
 /// `==` of these settings is equality, and a clone is equal.
 pub fn same_passives()
+    // `==` returns true exactly for equal values.
     ensures equal { (a b : RustPassive) → IsTrue (⟦<Passive as PartialEq>⟧.eq a b) ↔ (a ≡ b) }
+    // A clone equals its original.
     ensures clone { (a b : RustPassive) → ⟦<Passive as Clone>⟧.is_clone a b → b ≡ a }
 {}

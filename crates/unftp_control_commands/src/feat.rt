@@ -25,7 +25,9 @@ impl Feat {
         restart: bool,
         site_md5: bool,
     ) -> Result<Reply, ControlChanError>
+        // At `Ok` the reply is the definition's for these settings.
         ensures ok { IfOk result (λ reply. reply_of reply ≡ feat_reply tls restart site_md5) }
+        // The only error is out of memory.
         ensures err { IfErr result (λ error. fault_of error ≡ out_of_memory) }
     {
         let features = features_on(alloc, tls, restart, site_md5)?;
@@ -36,8 +38,10 @@ impl Feat {
     /// section 3.2); they are written as they are. It fails only when out of memory, with the kind
     /// `OutOfMemory`.
     pub fn reply_with(&self, alloc: Global, features: &[&str]) -> Result<Reply, ControlChanError>
+        // At `Ok` the reply has the code 211 and lists exactly these features, in order.
         ensures ok { IfOk result (λ reply. reply_of reply
             ≡ feat_reply_with (map (λ feature. feature.now) features.now)) }
+        // The only error is out of memory.
         ensures err { IfErr result (λ error. fault_of error ≡ out_of_memory) }
     {
         let mut lines = Vec::with_capacity(alloc, features.len() + 2)?;

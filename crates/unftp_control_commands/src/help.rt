@@ -18,7 +18,9 @@ impl Help {
     /// 214 with what the server runs on. It fails only when out of memory, with the kind
     /// `OutOfMemory`.
     pub fn reply(&self, alloc: Global) -> Result<Reply, ControlChanError>
+        // At `Ok` the reply is the definition's.
         ensures ok { IfOk result (λ reply. reply_of reply ≡ help_reply) }
+        // The only error is out of memory.
         ensures err { IfErr result (λ error. fault_of error ≡ out_of_memory) }
     {
         self.reply_with(
@@ -34,8 +36,10 @@ impl Help {
     /// 214 with these lines, which are written as they are. It fails only when out of memory, with
     /// the kind `OutOfMemory`.
     pub fn reply_with(&self, alloc: Global, lines: &[&str]) -> Result<Reply, ControlChanError>
+        // At `Ok` the reply has the code 214 and exactly these lines, in order.
         ensures ok { IfOk result (λ reply. reply_of reply
             ≡ help_reply_with (map (λ line. line.now) lines.now)) }
+        // The only error is out of memory.
         ensures err { IfErr result (λ error. fault_of error ≡ out_of_memory) }
     {
         let mut owned = Vec::with_capacity(alloc, lines.len())?;

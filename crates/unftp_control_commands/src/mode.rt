@@ -30,6 +30,7 @@ impl Model for Mode {
 impl Mode {
     /// MODE with this transfer mode.
     pub fn new(params: ModeParam) -> Mode
+        // The command's transfer mode is the one passed in.
         ensures { result ≡ params }
     {
         Mode { params }
@@ -38,7 +39,9 @@ impl Mode {
     /// 200 for the stream mode, and 504 for any other (RFC 959, section 4.1.2). It fails only when
     /// out of memory, with the kind `OutOfMemory`.
     pub fn reply(&self, alloc: Global) -> Result<Reply, ControlChanError>
+        // At `Ok` the reply is the definition's for this transfer mode.
         ensures ok { IfOk result (λ reply. reply_of reply ≡ mode_reply self.now) }
+        // The only error is out of memory.
         ensures err { IfErr result (λ error. fault_of error ≡ out_of_memory) }
     {
         let (code, text) = mode_line(&self.params);

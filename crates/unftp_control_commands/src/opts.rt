@@ -30,6 +30,7 @@ impl Model for Opts {
 impl Opts {
     /// OPTS with this option.
     pub fn new(option: Opt) -> Opts
+        // The command's option is the one passed in.
         ensures { result ≡ option }
     {
         Opts { option }
@@ -38,7 +39,9 @@ impl Opts {
     /// 200 for UTF-8 on, which it always is, and 504 for off (RFC 2389, section 4). It fails only
     /// when out of memory, with the kind `OutOfMemory`.
     pub fn reply(&self, alloc: Global) -> Result<Reply, ControlChanError>
+        // At `Ok` the reply is the definition's for this option.
         ensures ok { IfOk result (λ reply. reply_of reply ≡ opts_reply self.now) }
+        // The only error is out of memory.
         ensures err { IfErr result (λ error. fault_of error ≡ out_of_memory) }
     {
         let (code, text) = opts_line(&self.option);

@@ -7,6 +7,8 @@ use memchr::memchr;
 
 /// The bytes before the first such byte, and those after it; none where there is no such byte.
 pub fn cut(bytes: &[u8], byte: u8) -> Option<(&[u8], &[u8])>
+    // At `None` the byte does not occur. Otherwise the first part lacks it, and the first part, the
+    // byte and the second part make up the input.
     ensures { MatchOption result (Lacks byte bytes.now) (λ sides. Lacks byte sides.0.now
         × (bytes.now ≡ sides.0.now ++ byte ∷ sides.1.now)) }
 {
@@ -22,7 +24,9 @@ pub fn cut(bytes: &[u8], byte: u8) -> Option<(&[u8], &[u8])>
 
 /// Writes the text to the start of the area, which has room for it.
 pub fn overwrite(text: &[u8], area: &mut [u8])
+    // The area is at least as long as the text.
     requires { length text.now ≤ length area.old }
+    // The text is at the start of the area, and the bytes after it are unchanged.
     ensures { area.new ≡ overwritten text.now area.old }
 {
     let (front, _) = area.split_at_mut(text.len());
@@ -32,7 +36,9 @@ pub fn overwrite(text: &[u8], area: &mut [u8])
 /// Writes two texts, one after the other, to the start of the area, which has room for both.
 #[tactic(auto, using(crate::proofs::AreaLemmas::one_after_the_other))]
 pub fn overwrite_both(text: &[u8], next: &[u8], area: &mut [u8])
+    // The area is at least as long as both texts together.
     requires { length text.now + length next.now ≤ length area.old }
+    // Both texts are at the start of the area, and the bytes after them are unchanged.
     ensures { area.new ≡ overwritten (text.now ++ next.now) area.old }
 {
     let (front, rest) = area.split_at_mut(text.len());
@@ -52,9 +58,11 @@ fn overwrite_at(at: usize, piece: &[u8], area: &mut [u8])
 }
 
 /// Writes a piece of a text after those before it, where the area has room for it, and adds its
-/// length to theirs: more than `usize::MAX` is counted as `usize::MAX`. What is in an area that
-/// lacks room for the whole text is not said; an empty one serves to count.
+/// length to theirs: more than `usize::MAX` is counted as `usize::MAX`. An area that lacks room for
+/// the whole text may have any bytes after it; an empty one serves to count.
 pub fn put(piece: &[u8], area: &mut [u8], len: &mut usize)
+    // Where the area and the length fit a text before the call, they fit that text and the piece
+    // after it.
     ensures { (start text : Bytes) → HasText start text area.old len.old
         → HasText start (text ++ piece.now) area.new len.new }
 {

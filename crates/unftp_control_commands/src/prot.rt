@@ -30,21 +30,25 @@ impl Model for Prot {
 impl Prot {
     /// PROT with this level.
     pub fn new(param: ProtParam) -> Prot
+        // The command's level is the one passed in.
         ensures { result ≡ param }
     {
         Prot { param }
     }
 
-    /// The reply, and what the session has to do once it is sent (RFC 4217, section 9): 200 and TLS
-    /// on data connections for `Private` and none for `Clear`, 504 for the other levels, and 502
-    /// where TLS is not configured. It fails only when out of memory, with the kind `OutOfMemory`.
+    /// The reply, and what the session has to do once it is sent (RFC 4217, section 9). For
+    /// `Private` it is 200, and TLS on data connections; for `Clear` it is 200, and no TLS there.
+    /// For the other levels it is 504, and where TLS is not configured, 502. It fails only when out
+    /// of memory, with the kind `OutOfMemory`.
     pub fn reply(
         &self,
         alloc: Global,
         tls_configured: bool,
     ) -> Result<(Reply, SessionChange), ControlChanError>
+        // At `Ok` the reply and the change are those that the definition gives for this level.
         ensures ok { IfOk result (λ answer. (reply_of answer.0 ≡ prot_reply tls_configured self.now)
             × (answer.1 ≡ prot_change tls_configured self.now)) }
+        // The only error is out of memory.
         ensures err { IfErr result (λ error. fault_of error ≡ out_of_memory) }
     {
         let (code, text, change) = match (tls_configured, &self.param) {

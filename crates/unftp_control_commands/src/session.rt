@@ -15,6 +15,8 @@ pub enum SessionChange {
 
 /// `==` of changes is equality, and a clone is equal.
 pub fn same_changes()
+    // `==` returns true exactly for equal changes.
     ensures equal { (a b : RustChange) → IsTrue (⟦<SessionChange as PartialEq>⟧.eq a b) ↔ (a ≡ b) }
+    // A clone equals its original.
     ensures clone { (a b : RustChange) → ⟦<SessionChange as Clone>⟧.is_clone a b → b ≡ a }
 {}

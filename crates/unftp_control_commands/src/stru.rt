@@ -30,6 +30,7 @@ impl Model for Stru {
 impl Stru {
     /// STRU with this file structure.
     pub fn new(params: StruParam) -> Stru
+        // The command's file structure is the one passed in.
         ensures { result ≡ params }
     {
         Stru { params }
@@ -38,7 +39,9 @@ impl Stru {
     /// 200 for the file structure, and 504 for any other (RFC 959, section 4.1.2). It fails only
     /// when out of memory, with the kind `OutOfMemory`.
     pub fn reply(&self, alloc: Global) -> Result<Reply, ControlChanError>
+        // At `Ok` the reply is the definition's for this file structure.
         ensures ok { IfOk result (λ reply. reply_of reply ≡ stru_reply self.now) }
+        // The only error is out of memory.
         ensures err { IfErr result (λ error. fault_of error ≡ out_of_memory) }
     {
         let (code, text) = stru_line(&self.params);

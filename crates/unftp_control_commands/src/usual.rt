@@ -17,6 +17,7 @@ use unftp_control_message::reply::ReplyCode;
 /// The code and the text of the usual reply to a command, by the number of its verb and by its
 /// value. A server without TLS answers so each command that it doesn't have.
 pub fn usual_line(number: u32, value: &[u8]) -> (ReplyCode, &'static str)
+    // The code and the text are those of the definition's reply by this number and this value.
     ensures { CodeAndMsg (number_of result.0) result.1.now ≡ reply_by_number number value.now }
 {
     match number {
@@ -51,8 +52,8 @@ fn needs_tls(number: u32) -> bool
         || number == Verb::Ccc.number()
 }
 
-/// The code and the text of the reply to STRU, MODE and OPTS, by the value, and to any other command
-/// that the server doesn't have.
+/// The code and the text of the reply to STRU, MODE and OPTS, by the value, and to any other
+/// command that the server doesn't have.
 fn line_by_value(number: u32, value: &[u8]) -> (ReplyCode, &'static str)
     ensures { CodeAndMsg (number_of result.0) result.1.now ≡ reply_by_value number value.now }
 {
@@ -64,10 +65,15 @@ fn line_by_value(number: u32, value: &[u8]) -> (ReplyCode, &'static str)
     }
 }
 
-/// What a reply is by the number of a command's verb and by its value is that of the command.
+/// The usual reply to a command is the one by the number of its verb and by its value. It is short
+/// and readable.
 pub fn usual_lines_are_of_commands()
+    // The reply by the number of a command's verb and by its value, empty where it has none, is the
+    // usual reply to the command.
     ensures commands { (command : FtpCommand) → reply_by_number (command_number command)
         (unwrap_or (value_bytes (said command).value) []) ≡ command_reply command }
+    // The reply has at most 64 bytes on the connection, for every number and value.
     ensures short { (n : ℕ) (value : Bytes) → length (encoded (reply_by_number n value)) ≤ 64 }
+    // The reply is sent, and a client reads it back as it is, for every number and value.
     ensures readable { (n : ℕ) (value : Bytes) → IsReadable (reply_by_number n value) }
 {}
