@@ -1,5 +1,5 @@
--- The facts of a file (RFC 3659, section 7.5), each ended by a semicolon, in the reply to MLST and in
--- lines of MLSD.
+-- The facts of a file (RFC 3659, section 7.5), each ended by a semicolon, in the reply to MLST and
+-- in lines of MLSD.
 use Rattle.std.specs.Prelude.{◌≡◌, ℕ, ◌+◌, ◌/◌, ◌%◌, ℤ, pos, negsuc, ◌∷◌, ◌++◌, [], Bool, nat_lt, if◌then◌else◌, codes, decimal, Option, None, Some}
 use Rattle.jiff_core.specs.declared.civil.datetime.DateTime.{DateTime}
 use Rattle.jiff_core.specs.declared.timestamp.Timestamp.{Timestamp}
@@ -28,10 +28,12 @@ abbrev pub IsModified : Option Timestamp → Option Bytes → Type 0
 IsModified None text = text ≡ None
 IsModified (Some instant) text = IsTimeText instant.nanosecond text
 
+-- the fact of a time, where there is one
 abbrev pub modify_fact : Option Bytes → Bytes
 modify_fact None = []
 modify_fact (Some text) = codes "modify=" ++ text ++ codes ";"
 
+-- the fact of a type
 abbrev pub type_fact : Bool → Bytes
 type_fact is_dir = if is_dir then codes "type=dir;" else codes "type=file;"
 
@@ -55,5 +57,6 @@ HasFacts first file facts =
     ++ modify_fact time
     ++ id_fact (codes "unix.uid=") file.uid ++ id_fact (codes "unix.gid=") file.gid)
 
+-- the facts of a file that is shown as a directory or as a file
 abbrev pub IsFacts : FileFacts → Bytes → Type 0
 IsFacts file = HasFacts (type_fact file.is_dir) file

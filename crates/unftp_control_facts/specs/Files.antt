@@ -1,4 +1,4 @@
--- What is told of a file.
+-- What listings show of a file: its kind, and its facts.
 use Rattle.std.specs.Prelude.{ℕ, Bool, true, false, codes}
 use Rattle.unftp_control_defs.specs.Bytes.{Bytes, DASH}
 use Rattle.unftp_control_facts.specs.Facts.{FileFacts}
@@ -30,6 +30,7 @@ kind_fact Socket = codes "type=OS.unix=socket;"
 kind_fact CharacterDevice = codes "type=OS.unix=chr;"
 kind_fact BlockDevice = codes "type=OS.unix=blk;"
 
+-- the facts of a file whose status is known
 abbrev pub facts_of_file : FileStatus → FileFacts
 facts_of_file file = record {
   is_dir = is_directory file.kind;

@@ -11,7 +11,7 @@ use Rattle.unftp_control_facts.specs.declared.file.FileStatus.{FileStatus}
 use Rattle.unftp_control_facts.specs.declared.listing.LineError.{LineError}
 use Rattle.unftp_control_facts.specs.declared.listing.LineError.TheVariants.{InvalidName, OutOfMemory}
 
--- The name doesn't end a line.
+-- The name has neither a carriage return nor a line feed.
 abbrev pub IsOneLine : Bytes → Type 0
 IsOneLine name = Lacks CR name × Lacks LF name
 
@@ -24,6 +24,7 @@ HasNoLine name OutOfMemory = IsOneLine name
 abbrev pub ended_name : Bytes → Bytes
 ended_name name = SP ∷ (name ++ crlf)
 
+-- the line of MLSD: the facts, a space, the name and CR LF
 abbrev pub IsFactsLine : FileStatus → Bytes → Bytes → Type 0
 IsFactsLine file name line = (facts : Bytes)
     × HasFacts (kind_fact file.kind) (facts_of_file file) facts × (line ≡ facts ++ ended_name name)
@@ -47,14 +48,15 @@ right width text = replicate (width - length text) SP ++ text
 abbrev pub left : ℕ → Bytes → Bytes
 left width text = text ++ replicate (width - length text) SP
 
--- the number of a user or a group, where it is told
+-- the number of a user or a group, or `ftp` in place of 0
 abbrev pub owner : ℕ → Bytes
 owner id = if id == 0 then codes "ftp" else decimal id
 
+-- the three letters of a month, from 1 to 12
 abbrev pub month_name : ℕ → Bytes
 month_name month = take 3 (drop (3 * (month - 1)) (codes "JanFebMarAprMayJunJulAugSepOctNovDec"))
 
--- in four digits, of which a year before 0 has none
+-- a year in four digits; a year before 0 is written as 0000
 abbrev pub year_text : ℤ → Bytes
 year_text (pos year) = two_digits (year / 100) ++ two_digits (year % 100)
 year_text (negsuc year) = codes "0000"
@@ -65,11 +67,12 @@ clock_or_year recent civil = if recent
     then SP ∷ (two_digits civil.time.hour ++ codes ":" ++ two_digits civil.time.minute)
     else SP ∷ SP ∷ year_text civil.date.year
 
+-- the month, the day, and the time of day or the year
 abbrev pub date_text : Bool → DateTime → Bytes
 date_text recent civil = month_name civil.date.month ++ SP ∷ right 2 (decimal civil.date.day)
     ++ clock_or_year recent civil
 
--- at most half a year ago, and not in the future: less than 182 days, in nanoseconds
+-- An age in nanoseconds is recent where it is at least 0 and less than 182 days.
 abbrev pub is_recent : ℤ → Bool
 is_recent (pos age) = nat_lt age 15_724_800_000_000_000
 is_recent (negsuc _) = false
@@ -90,10 +93,12 @@ list_front file = kind_letter file.kind ∷ (mode_text file.mode
     ++ SP ∷ right 3 (decimal file.links)
     ++ SP ∷ left 8 (owner file.uid) ++ SP ∷ left 8 (owner file.gid))
 
+-- a line of LIST with this date and this name
 abbrev pub list_text : FileStatus → Bytes → Bytes → Bytes
 list_text file date name = list_front file ++ SP ∷ right 12 (decimal file.size) ++ SP ∷ date
     ++ ended_name name
 
+-- the line of LIST, in the form of `ls -l`
 abbrev pub IsListLine : FileStatus → ℤ → Bytes → Bytes → Type 0
 IsListLine file now name line = (date : Bytes)
     × IsDate now (nanosecond_or_epoch file.modified) date × (line ≡ list_text file date name)

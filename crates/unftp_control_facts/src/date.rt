@@ -13,7 +13,8 @@ use jiff::civil::DateTime;
 use jiff::tz::Offset;
 use std::alloc::AllocError;
 
-/// So old a file is listed with the year in place of the time of day: 182 days, in nanoseconds.
+/// A file of this age or older is listed with the year in place of the time of day: 182 days, in
+/// nanoseconds.
 const HALF_A_YEAR: i128 = 182 * 86_400 * 1_000_000_000;
 
 const MONTHS: &[u8] = b"JanFebMarAprMayJunJulAugSepOctNovDec";
@@ -59,7 +60,7 @@ fn push_clock_or_year(line: &mut Vec<u8>, civil: DateTime, recent: bool) -> Resu
     }
 }
 
-/// Whether so many nanoseconds are half a year at most, and none in the future.
+/// Whether an age in nanoseconds is at least 0 and less than 182 days.
 fn is_recent(age: i128) -> bool
     ensures { result ≡ is_recent age }
 {

@@ -78,7 +78,7 @@ pub fn names_are_of_one_line()
     ensures end { ended_name (codes "a b") ≡ codes " a b\r\n" }
 {}
 
-/// Noon on 1 December 2023, at that time and half a year later.
+/// Noon on 1 December 2023, at that time and 182 days later.
 pub fn dates_are_of_utc()
     ensures recent { IsDate (pos 1_701_432_000_000_000_000) (pos 1_701_432_000_000_000_000)
         (codes "Dec  1 12:00") }
@@ -90,7 +90,7 @@ pub fn dates_are_of_utc()
         (pos 1_701_432_000_000_000_000) (codes "Dec  1 12:00") }
 {}
 
-/// A directory whose time is not known, half a year after the Unix epoch.
+/// A directory whose time is not known, 182 days after the Unix epoch.
 pub fn files_have_lines()
     ensures list { IsListLine a_directory (pos 15_724_800_000_000_000) (codes "pub")
         (codes "drwxr-xr-x   2 1000     ftp              4096 Jan  1  1970 pub\r\n") }

@@ -16,22 +16,27 @@ pub trait Metadata {
 
     /// Its length in bytes.
     fn len(&self) -> u64
+        // It is the size in the facts of the value.
         ensures { result ≡ (facts_of self.now).size };
 
     /// Whether it is a directory.
     fn is_dir(&self) -> bool
+        // It is true exactly where the facts of the value say directory.
         ensures { result ≡ (facts_of self.now).is_dir };
 
     /// When it was last modified, where that is known.
     fn modified(&self) -> Option<Timestamp>
+        // It is the time in the facts of the value, or `None`.
         ensures { result ≡ (facts_of self.now).modified };
 
     /// The user that it belongs to; 0 is left out.
     fn uid(&self) -> u32
+        // It is the user in the facts of the value.
         ensures { result ≡ (facts_of self.now).uid };
 
     /// The group that it belongs to; 0 is left out.
     fn gid(&self) -> u32
+        // It is the group in the facts of the value.
         ensures { result ≡ (facts_of self.now).gid };
 }
 
@@ -56,6 +61,8 @@ fn push_two_digits(text: &mut String, n: u8) -> Result<(), AllocError>
 /// The second of UTC that holds the instant, as YYYYMMDDHHMMSS (RFC 3659, section 2.3), or `None`
 /// where its year is before 0. This is the text of the modify fact and of the reply to MDTM.
 pub fn modify_text(alloc: Global, instant: Timestamp) -> Result<Option<String>, AllocError>
+    // At `Ok` the text is the civil second of UTC that holds the instant, or `None` where its year
+    // is before 0.
     ensures { IfOk result (λ text. IsTimeText instant.nanosecond (option_map string_bytes text)) }
 {
     let utc = Offset::UTC.to_datetime(instant);
@@ -115,11 +122,13 @@ fn type_text(is_dir: bool) -> &'static str
     if is_dir { "type=dir;" } else { "type=file;" }
 }
 
-/// The facts of a file in one text: type and size, the second of UTC in which it was modified where
-/// that is known and its year is from 0 to 9999, and user and group where they are above 0. It
-/// fails only when out of memory, with the kind `OutOfMemory`.
+/// The facts of a file in one text: type and size, when it was modified, and user and group where
+/// they are above 0. The time is a second of UTC, where it is known and its year is from 0 to 9999.
+/// It fails only when out of memory, with the kind `OutOfMemory`.
 pub fn format_facts<M: Metadata>(alloc: Global, metadata: &M) -> Result<String, ControlChanError>
+    // At `Ok` the text is that of the facts of the file, as the definition writes them.
     ensures ok { IfOk result (λ facts. IsFacts (M.facts_of metadata.now) (string_bytes facts)) }
+    // The only error is out of memory.
     ensures err { IfErr result (λ error. fault_of error ≡ out_of_memory) }
 {
     Ok(facts_with(alloc, type_text(metadata.is_dir()), metadata)?)
@@ -145,6 +154,7 @@ pub(crate) fn facts_with<M: Metadata>(
 
 /// A file has one text of facts.
 pub fn one_text_of_facts()
+    // Two texts of the facts of one file are equal.
     ensures { (file : FileFacts) (facts other : Bytes) → IsFacts file facts → IsFacts file other
         → facts ≡ other }
 {}

@@ -1,4 +1,4 @@
-//! What is told of a file.
+//! What listings show of a file.
 ghost use Rattle.std.specs.Prelude.{◌≡◌, ◌∷◌, []};
 ghost use Rattle.unftp_control_facts.specs.Facts.{FileFacts};
 ghost use Rattle.unftp_control_facts.specs.Files.{facts_of_file, is_directory, kind_letter, kind_fact};
@@ -66,9 +66,9 @@ pub struct FileStatus {
     pub mode: u32,
     /// How many names it has.
     pub links: u32,
-    /// The user that it belongs to; 0 where that is not told.
+    /// The user that it belongs to, or 0 where that is not known.
     pub uid: u32,
-    /// The group that it belongs to; 0 where that is not told.
+    /// The group that it belongs to, or 0 where that is not known.
     pub gid: u32,
     /// Its length in bytes.
     pub size: u64,

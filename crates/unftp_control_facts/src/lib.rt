@@ -1,4 +1,4 @@
-//! What a server tells of its files: facts, as MLST and MLSD have them (RFC 3659, section 7), and
+//! What a server shows of its files: facts, as MLST and MLSD have them (RFC 3659, section 7), and
 //! lines of LIST in the form of `ls -l`.
 #![tactic(auto)]
 

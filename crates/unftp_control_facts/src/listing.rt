@@ -24,13 +24,17 @@ pub enum LineError {
     OutOfMemory,
 }
 
-/// The line of a file in the reply to MLSD, with its end: the facts of `format_facts`, but for a
-/// type of its own where it is neither a file nor a directory, a space and the name (RFC 3659,
-/// section 7.2). It is refused with `InvalidName` where the name has a carriage return or a line
-/// feed, and for that no memory is asked for.
+/// The line of a file in the reply to MLSD, with its end: its facts, a space and the name (RFC
+/// 3659, section 7.2). The facts are those of `format_facts`, but for a type of its own where it is
+/// neither a file nor a directory. It is refused with `InvalidName` where the name has a carriage
+/// return or a line feed, and for that no memory is asked for.
 pub fn facts_line(alloc: Global, file: &FileStatus, name: &[u8]) -> Result<Vec<u8>, LineError>
+    // At `Ok` the line is one of MLSD for this file and name, as the definition writes it.
     ensures ok { IfOk result (λ line. IsFactsLine file.now name.now line.items) }
+    // At `Ok` the name has neither a carriage return nor a line feed.
     ensures name { OnOk result (IsOneLine name.now) }
+    // `InvalidName` comes only where the name has a carriage return or a line feed, and
+    // `OutOfMemory` only where it has neither.
     ensures err { IfErr result (HasNoLine name.now) }
 {
     if !is_one_line(name) {
@@ -39,7 +43,7 @@ pub fn facts_line(alloc: Global, file: &FileStatus, name: &[u8]) -> Result<Vec<u
     made_facts_line(alloc, file, name).map_err(|_| LineError::OutOfMemory)
 }
 
-/// The same of a name that can be in a line.
+/// The same for a name that can be in a line.
 fn made_facts_line(alloc: Global, file: &FileStatus, name: &[u8]) -> Result<Vec<u8>, AllocError>
     ensures { IfOk result (λ line. IsFactsLine file.now name.now line.items) }
 {
@@ -50,20 +54,24 @@ fn made_facts_line(alloc: Global, file: &FileStatus, name: &[u8]) -> Result<Vec<
 }
 
 /// The line of a file in the reply to LIST, with its end, in the form of `ls -l`, as
-/// `-rw-r--r--   1 ftp      ftp              1234 Dec  1 12:00 a.txt`: what it is and its
-/// permissions, the number of its names, the user and the group, or `ftp` in place of 0, the size,
-/// the second of UTC in which it was modified, and the name. A time in the future, or of half a
-/// year ago or more, has the year in place of the time of day; a year before 0 is written as 0000,
-/// and an unknown time as that of the Unix epoch. It is refused with `InvalidName` where the name
-/// has a carriage return or a line feed, and for that no memory is asked for.
+/// `-rw-r--r--   1 ftp      ftp              1234 Dec  1 12:00 a.txt`. It has what the file is and
+/// its permissions, the number of its names, the user and the group, the size, when it was modified
+/// in UTC, and the name. A user or a group of 0 is written as `ftp`. A time in the future, or of
+/// 182 days ago or more, has the year in place of the time of day. A year before 0 is written as
+/// 0000, and an unknown time as that of the Unix epoch. It is refused with `InvalidName` where the
+/// name has a carriage return or a line feed, and for that no memory is asked for.
 pub fn list_line(
     alloc: Global,
     file: &FileStatus,
     now: Timestamp,
     name: &[u8],
 ) -> Result<Vec<u8>, LineError>
+    // At `Ok` the line is one of LIST for this file and name at this time, in the form of `ls -l`.
     ensures ok { IfOk result (λ line. IsListLine file.now now.nanosecond name.now line.items) }
+    // At `Ok` the name has neither a carriage return nor a line feed.
     ensures name { OnOk result (IsOneLine name.now) }
+    // `InvalidName` comes only where the name has a carriage return or a line feed, and
+    // `OutOfMemory` only where it has neither.
     ensures err { IfErr result (HasNoLine name.now) }
 {
     if !is_one_line(name) {
@@ -72,7 +80,7 @@ pub fn list_line(
     made_list_line(alloc, file, now, name).map_err(|_| LineError::OutOfMemory)
 }
 
-/// The same of a name that can be in a line.
+/// The same for a name that can be in a line.
 fn made_list_line(
     alloc: Global,
     file: &FileStatus,
@@ -140,10 +148,12 @@ fn is_one_line(name: &[u8]) -> bool
     !name.contains(&b'\r') && !name.contains(&b'\n')
 }
 
-/// A file of a name has one line in each listing.
+/// A file has one line of MLSD, and one of LIST at one time.
 pub fn one_line_of_a_file()
+    // A file of a name has one line in the reply to MLSD.
     ensures facts { (file : Status) (name line other : Bytes) → IsFactsLine file name line
         → IsFactsLine file name other → line ≡ other }
+    // A file of a name has one line in the reply to LIST at one time.
     ensures list { (file : Status) (now : ℤ) (name line other : Bytes)
         → IsListLine file now name line → IsListLine file now name other → line ≡ other }
 {}
