@@ -64,6 +64,7 @@ IsRead Eprt text found = IsReadExtended text found
 IsRead Reply227 text found = found ≡ or_none (first_host_port text)
 IsRead Reply229 text found = found ≡ or_none (option_map (λ port. ([], port)) (extended_port text))
 
+-- the same, where the number of the form may be invalid
 abbrev pub IsReadBy : Option Form → Bytes → Result Address Status → Type 0
 IsReadBy None text found = found ≡ Err InvalidArgument
 IsReadBy (Some form) text found = IsRead form text found
@@ -118,6 +119,7 @@ IsNotWritten form count InvalidArgument = ¬ (HasLength form count)
 IsNotWritten form count OutOfMemory = HasLength form count
 IsNotWritten form count _ = ⊥
 
+-- the text of an address, or why it is not written
 abbrev pub IsWritten : Form → Bytes → ℕ → Made → Type 0
 IsWritten form ip port (Ok text) = HasLength form (length ip) × IsText form ip port text
 IsWritten form ip port (Err status) = IsNotWritten form (length ip) status
@@ -126,6 +128,7 @@ IsWritten form ip port (Err status) = IsNotWritten form (length ip) status
 abbrev pub form_for : ℕ → ℕ → Option Form
 form_for number port = if nat_lt port 65536 then form_of number else None
 
+-- the same, where the number of the form or the port may be invalid
 abbrev pub IsWrittenBy : Option Form → Bytes → ℕ → Made → Type 0
 IsWrittenBy None ip port text = text ≡ Err InvalidArgument
 IsWrittenBy (Some form) ip port text = IsWritten form ip port text

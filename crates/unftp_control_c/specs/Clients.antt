@@ -39,8 +39,8 @@ place_in Greeting = 0
 place_in (Command place) = place
 place_in Nothing = 0
 
--- TLS may begin, where so many bytes are pending: the last reply was a 234 to the last command that
--- asks for it, no command is owed a reply, and no byte is pending (RFC 4217, section 4).
+-- TLS may begin where the last reply was a 234 to the last command that asks for it, no command is
+-- owed a reply, and no byte is pending (RFC 4217, section 4).
 abbrev pub may_begin_tls : Dialogue → ℕ → Bool
 may_begin_tls dialogue pending =
     dialogue.agreed && ((commands_owed dialogue == 0) && (pending == 0))

@@ -15,7 +15,8 @@ use Rattle.unftp_control_c.specs.Areas.{Made}
 abbrev pub ArePrintable : Bytes → Type 0
 ArePrintable text = AllByRecursion IsPrintable text
 
--- of what is shown of a line, and of replies; where nothing is shown, they are to the connection
+-- The log's line of what is shown of a line, and of replies. Where nothing is shown, these are to
+-- the connection.
 abbrev pub shown_exchange : Bytes → List Read → Bytes
 shown_exchange shown replies =
     exchange_line (record { line = unless_empty shown; replies = replies })
@@ -41,7 +42,8 @@ abbrev pub IsLeftUnread : Bytes → Status → Type 0
 IsLeftUnread bytes OutOfMemory = ⊤
 IsLeftUnread bytes status = IsNotRead bytes status
 
--- the line, or why there is none
+-- The line, or why there is none: first a byte that isn't printable in what is shown, and then
+-- bytes that are not all replies.
 abbrev pub IsExchangeLine : Bytes → Bytes → Made → Type 0
 IsExchangeLine shown bytes (Ok text) = ArePrintable shown × (replies : List Read)
     × AreReplies bytes replies [] × (text ≡ shown_exchange shown replies)

@@ -1,4 +1,4 @@
--- What a caller in C tells of a file, and its lines in MLSD and in LIST.
+-- What a caller in C gives of a file, and its lines in MLSD and in LIST.
 use Rattle.std.specs.Prelude.{⊤, ◌≡◌, ◌⊎◌, ◌==◌, ℕ, ◌<◌, ℤ, pos, if◌then◌else◌, Option, None, Some, Ok, Err}
 use Rattle.jiff_core.specs.Timestamp.{IsTimestampNanos, nanos_of_seconds}
 use Rattle.jiff_core.specs.declared.timestamp.Timestamp.{Timestamp}
@@ -37,10 +37,11 @@ IsTime None None = ⊤
 IsTime (Some second) (Some instant) = IsInstant second instant
 IsTime _ _ = ⊥
 
--- what is given of a file can be told: its kind has a number, and its time is an instant
+-- the time is not known, or an instant
 abbrev pub HasTime : File → Type 0
 HasTime given = (given.has_modified ≡ 0) ⊎ IsSecond given.modified
 
+-- What is given of a file can be in a line: its kind has a number, and its time is an instant.
 abbrev pub CanBeTold : File → Type 0
 CanBeTold given = (given.kind < 7) × HasTime given
 
@@ -59,17 +60,19 @@ abbrev pub name_status : LineError → Status
 name_status why.InvalidName = InvalidArgument
 name_status why.OutOfMemory = OutOfMemory
 
--- why there is no line, where this says when there is one
+-- why there is no line: an invalid argument exactly where `HasLine` doesn't hold, or out of memory
 abbrev pub IsNoLine : Type 0 → Status → Type 0
 IsNoLine HasLine InvalidArgument = ¬ HasLine
 IsNoLine HasLine OutOfMemory = HasLine
 IsNoLine HasLine _ = ⊥
 
+-- the line of MLSD, or why there is none
 abbrev pub HasFactsLine : File → Bytes → Made → Type 0
 HasFactsLine given name (Ok line) = (CanBeTold given × IsOneLine name)
     × ((file : FileStatus) × IsStatusOf given file × IsFactsLine file name line)
 HasFactsLine given name (Err status) = IsNoLine (CanBeTold given × IsOneLine name) status
 
+-- the line of LIST at this time, or why there is none
 abbrev pub HasListLine : File → ℤ → Bytes → Made → Type 0
 HasListLine given now name (Ok line) = (IsSecond now × CanBeTold given × IsOneLine name)
     × ((file : FileStatus) × IsStatusOf given file
@@ -77,7 +80,7 @@ HasListLine given now name (Ok line) = (IsSecond now × CanBeTold given × IsOne
 HasListLine given now name (Err status) =
     IsNoLine (IsSecond now × CanBeTold given × IsOneLine name) status
 
--- a file of which nothing is told, for the examples
+-- a file with zeros only, for the examples
 abbrev pub untold : File
 untold = record {
   size = 0;

@@ -1,4 +1,5 @@
--- What a server in C keeps of a login (RFC 959, section 4.1.1), and what an event's number is to it.
+-- What a server in C keeps of a login (RFC 959, section 4.1.1), and what an event is to it, by its
+-- number.
 use Rattle.std.specs.Prelude.{◌≡◌, ℕ, ◌==◌, ◌||◌, Bool, if◌then◌else◌, List, [], ◌∷◌}
 use Rattle.unftp_control_defs.specs.Events.{FtpEvent}
 use Rattle.unftp_control_login.specs.Gate.{stage_by}
@@ -19,6 +20,7 @@ abbrev pub progress_of : ℕ → Progress
 progress_of stage = if stage == 1 then Named else (if stage == 2 then LoggedIn else
     (if stage == 3 then Asked else NoName))
 
+-- the number that the caller keeps
 abbrev pub stage_number : Progress → ℕ
 stage_number NoName = 0
 stage_number Named = 1
@@ -53,6 +55,7 @@ pub record KeepsSame (kept other : Stage) : Type 0 where
   pub progress : kept.progress ≡ other.progress
   pub name : kept.progress ≡ Named → kept.name ≡ other.name
 
+-- what is kept after the events
 abbrev pub kept_after_all : Accounts → Stage → List FtpEvent → Stage
 kept_after_all accepts kept [] = kept
 kept_after_all accepts kept (event ∷ events) =

@@ -163,6 +163,7 @@ needed_room line = line.name_len + (if nat_lt 0 line.value_at then 0 else line.v
 abbrev pub without_room : NextCall → Bytes → Given → Left
 without_room call line given = record (kept call NoRoom) { line = lengths_of 0 line given }
 
+-- A line is given where the area has room for what is written.
 abbrev pub gives : NextCall → Bytes → Given → Left
 gives call line given = if nat_le (length (written_for line given)) (length call.area)
     then given_left call line given
@@ -186,6 +187,7 @@ has_any_bytes number = number == 1 || number == 2 || number == 3 || number == 5
 abbrev pub AreTexts : ℕ → Bytes → Bytes → Type 0
 AreTexts number name value = IsUtf8 name × (has_any_bytes number ≡ false → IsUtf8 value)
 
+-- the name and the value that a call gives of a command, where it gives one
 abbrev pub HasTexts : Bytes → Left → Type 0
 HasTexts bytes left =
     left.result < 101 → AreTexts left.result (name_in left) (value_in bytes left)
@@ -224,6 +226,8 @@ LeavesLine call line left =
     (left ≡ gives call line (given_for (event_of (outcome line))))
     ⊎ (MayTakeMemory line × (left ≡ kept call OutOfMemory))
 
+-- What a call leaves. Only for a complete line that may take memory may it be out of memory
+-- instead, and then nothing changes.
 abbrev pub Leaves : NextCall → Left → Type 0
 Leaves call left = (left ≡ next_of call)
     ⊎ (LineMayTakeMemory call × (left ≡ kept call OutOfMemory))

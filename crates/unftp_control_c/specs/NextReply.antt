@@ -48,6 +48,7 @@ abbrev pub IsSearchIn : ReplySearch → Bytes → Type 0
 IsSearchIn search bytes = IsSearched (within_limit (line_limit search.limit) bytes)
     (begun_at search.line search.offset)
 
+-- what is reported where no reply is found
 abbrev pub no_reply : FoundReply
 no_reply = record { used = 0; code = 0 }
 
@@ -96,6 +97,8 @@ pub record FindsReply (call : ReplyCall) (left : ReplyLeft) : Type 0 where
 abbrev pub refused_search : ReplyCall → ReplyLeft
 refused_search call = reply_left (status_number InvalidArgument) call.search no_reply
 
+-- What a call leaves. It refuses exactly the places that are invalid, and finds the first reply
+-- where the search has come so far in these bytes.
 pub record LeavesReply (call : ReplyCall) (left : ReplyLeft) : Type 0 where
   pub refused : is_valid_search call.search (seen_length call) ≡ false
       → left ≡ refused_search call

@@ -1,4 +1,4 @@
--- The usual replies and those of a login, by the numbers that a caller has of an event and of a step.
+-- The usual replies and those of a login, by the numbers that a caller has of an event and a step.
 use Rattle.std.specs.Prelude.{ℕ, ◌==◌, ◌&&◌, Bool, if◌then◌else◌, nat_le, nat_lt, Option, None, Some, Ok, Err}
 use Rattle.unftp_control_defs.specs.Bytes.{Bytes}
 use Rattle.unftp_control_defs.specs.FtpCommand as refusal
@@ -36,6 +36,7 @@ abbrev pub encoded_or_invalid : Option FtpReply → Made
 encoded_or_invalid None = Err InvalidArgument
 encoded_or_invalid (Some reply) = Ok (encoded reply)
 
+-- the bytes of the usual reply, or an invalid argument where the number is that of no event
 abbrev pub usual_bytes : ℕ → Bytes → Made
 usual_bytes n value = encoded_or_invalid (event_reply n value)
 
@@ -54,6 +55,7 @@ step_reply AskAccounts accepted = Some (if accepted then logged_in else not_acce
 step_reply NeedName accepted = Some name_needed
 step_reply NeedLogin accepted = Some login_needed
 
+-- the bytes of the reply at the step of a number, or an invalid argument where it has none
 abbrev pub login_bytes : ℕ → ℕ → Made
 login_bytes step accepted = encoded_or_invalid (step_reply (step_of step) (nat_lt 0 accepted))
 

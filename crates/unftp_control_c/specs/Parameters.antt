@@ -12,9 +12,10 @@ abbrev pub or_invalid_eol : Option Bytes → Made
 or_invalid_eol None = Err InvalidEol
 or_invalid_eol (Some value) = Ok value
 
+-- the value of the line's parameter
 abbrev pub parameter_bytes : Bytes → Made
 parameter_bytes line = or_invalid_eol (value_of (parameter_of line))
 
--- what comes after the options
+-- the path of LIST in that value, which comes after the options
 abbrev pub list_path_bytes : Bytes → Made
 list_path_bytes line = or_invalid_eol (option_map path_of (value_of (parameter_of line)))

@@ -64,6 +64,8 @@ pub extern "C" fn unftp_read_address(
     ip: &mut [u8],
     address: &mut Address,
 ) -> u32
+    // `ip`, its length and the port get exactly the address that the text has in this form. Without
+    // an address or room `ip` is unchanged, and the result reports why.
     ensures { (found : Result Given RustStatus) × IsReadBy (form_of form) text.now found
         × (record {
           result = result;
@@ -167,6 +169,8 @@ pub extern "C" fn unftp_write_address(
     out: &mut [u8],
     len: &mut usize,
 ) -> u32
+    // The text of the address in this form is written where `out` has room for it. Otherwise `out`
+    // is unchanged, and the result reports why.
     ensures { (text : Made) × IsWrittenBy (form_for form port) ip.now port text
         × (record { result = result; area = out.new; text_length = len.new }
         ≡ written text out.old) }

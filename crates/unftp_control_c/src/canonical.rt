@@ -21,11 +21,16 @@ pub extern "C" fn unftp_canonical(
     out: &mut [u8],
     len: &mut usize,
 ) -> u32
+    // Out of memory comes only where the line may take memory, or its command has a line.
     ensures memory { result ≡ status_number OutOfMemory → CanonicalMayTakeMemory line.now }
+    // The canonical line of the line's command is written, or `out` is unchanged and the result
+    // reports why.
     ensures writes { (bytes : Made) × IsCanonical line.now bytes
         × (record { result = result; area = out.new; text_length = len.new }
         ≡ written bytes out.old) }
+    // `NoLine` never comes for a line whose only line feed is its last byte.
     ensures has_line { IsLine line.now → result ≢ status_number NoLine }
+    // At `Done` what is written has the same outcome as the line.
     ensures read_back { result ≡ status_number Done
         → outcome (take len.new out.new) ≡ outcome line.now }
 {

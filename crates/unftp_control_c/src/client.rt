@@ -82,7 +82,9 @@ impl Client {
 /// Takes the next line of a proxy's client: `unftp_client_take` of include/unftp_control.h.
 #[unsafe(no_mangle)]
 pub extern "C" fn unftp_client_take(client: &mut Client) -> u32
+    // It is 1 where the next line may be taken, and 0 where it may not.
     ensures taken { result ≡ (if may_take (order_of client.old) then 1 else 0) }
+    // At 1 the order differs only in that a line is taken. At 0 it is unchanged.
     ensures after { order_of client.new ≡ after_call (order_of client.old) Takes }
 {
     let mut order = client.order();
@@ -95,7 +97,9 @@ pub extern "C" fn unftp_client_take(client: &mut Client) -> u32
 /// include/unftp_control.h.
 #[unsafe(no_mangle)]
 pub extern "C" fn unftp_client_answer(client: &mut Client, code: u32) -> u32
+    // It is 1 where the line that is taken may be answered with this code, and 0 where it may not.
     ensures given { result ≡ (if may_answer (order_of client.old) code then 1 else 0) }
+    // At 1 the order differs only in that no line is taken any more. At 0 it is unchanged.
     ensures after { order_of client.new ≡ after_answer (order_of client.old) code }
 {
     let mut order = client.order();
@@ -107,14 +111,20 @@ pub extern "C" fn unftp_client_answer(client: &mut Client, code: u32) -> u32
 /// Notes a line that is sent: `unftp_client_line` of include/unftp_control.h.
 #[unsafe(no_mangle)]
 pub extern "C" fn unftp_client_line(client: &mut Client, line: &[u8], place: &mut u64) -> u32
+    // `NoLine` comes wherever the bytes are not one line, with one line feed, its last byte.
     ensures not_a_line { ¬ IsLine line.now → result ≡ status_number NoLine }
+    // After 2^64 - 1 lines another line is reported as an invalid argument.
     ensures full { IsLine line.now → client.old.sent ≡ 2 ^ 64 - 1
         → result ≡ status_number InvalidArgument }
+    // Where the result is not `Done`, the struct is unchanged, and the place is 0.
     ensures kept { result ≢ status_number Done
         → (client.new ≡ client.old) × (place.new ≡ 0) }
+    // Any other line is noted: its place is how many were noted before, and the dialogue is the one
+    // after it.
     ensures is_line { IsLine line.now → client.old.sent < 2 ^ 64 - 1
         → (result ≡ status_number Done) × (place.new ≡ client.old.sent)
         × (dialogue_of client.new ≡ after_command line.now (dialogue_of client.old)) }
+    // At `Done` the order is the one after this line is sent.
     ensures order { result ≡ status_number Done
         → order_of client.new ≡ after_call (order_of client.old) (Sends line.now) }
 {
@@ -131,13 +141,17 @@ pub extern "C" fn unftp_client_line(client: &mut Client, line: &[u8], place: &mu
     Status::Done.number()
 }
 
-/// Notes a reply that came, and says what it is to: `unftp_client_reply` of
+/// Notes a reply that came, and returns what it is to: `unftp_client_reply` of
 /// include/unftp_control.h.
 #[unsafe(no_mangle)]
 pub extern "C" fn unftp_client_reply(client: &mut Client, code: u32, place: &mut u64) -> u32
+    // The result is what the next reply is to: the greeting, a line, or nothing.
     ensures to { result ≡ to_number (next_to (dialogue_of client.old)) }
+    // The place is that of the line, or 0 where the reply is to no line.
     ensures place { place.new ≡ place_in (next_to (dialogue_of client.old)) }
+    // The dialogue is the one after a reply with this code.
     ensures after { dialogue_of client.new ≡ after_reply (dialogue_of client.old) code }
+    // The order is the one after a reply with this code is passed on.
     ensures order { order_of client.new ≡ after_pass (order_of client.old) code }
 {
     let mut order = client.order();
@@ -155,6 +169,7 @@ pub extern "C" fn unftp_client_reply(client: &mut Client, code: u32, place: &mut
 /// How many lines are owed their final reply: `unftp_client_owed` of include/unftp_control.h.
 #[unsafe(no_mangle)]
 pub extern "C" fn unftp_client_owed(client: &Client) -> u64
+    // It is how many lines are owed their final reply.
     ensures { result ≡ commands_owed (dialogue_of client.now) }
 {
     client.dialogue().owed()
@@ -164,6 +179,7 @@ pub extern "C" fn unftp_client_owed(client: &Client) -> u64
 /// include/unftp_control.h.
 #[unsafe(no_mangle)]
 pub extern "C" fn unftp_client_may_begin_tls(client: &Client, pending: usize) -> u32
+    // It is 1 where TLS may begin while so many bytes are pending, and 0 where it may not.
     ensures { result
         ≡ (if may_begin_tls (dialogue_of client.now) pending then 1 else 0) }
 {

@@ -25,6 +25,8 @@ pub extern "C" fn unftp_log_exchange(
     out: &mut [u8],
     len: &mut usize,
 ) -> u32
+    // The log's line is written, of what is shown and of the replies that the bytes are. Otherwise
+    // `out` is unchanged, and the result reports why.
     ensures { (bytes : Made) × IsExchangeLine shown.now replies.now bytes
         × (record { result = result; area = out.new; text_length = len.new }
         ≡ written bytes out.old) }

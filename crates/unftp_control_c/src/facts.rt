@@ -1,4 +1,4 @@
-//! What is told of a file: its lines in MLSD and in LIST.
+//! What a caller in C gives of a file, and its lines in MLSD and in LIST.
 ghost use Rattle.std.specs.Prelude.{◌≡◌, IfErr, MatchOption, OnOk};
 ghost use Rattle.unftp_control_facts.specs.Listing.{HasNoLine};
 ghost use Rattle.unftp_control_c.specs.Areas.{Made, made, written};
@@ -10,7 +10,7 @@ use jiff::Timestamp;
 use std::alloc::Global;
 use unftp_control_facts::{FileKind, FileStatus, LineError, facts_line, list_line};
 
-/// What is told of a file: `struct unftp_file` of include/unftp_control.h.
+/// What a caller in C gives of a file: `struct unftp_file` of include/unftp_control.h.
 #[repr(C)]
 #[derive(Clone, Copy)]
 pub struct File {
@@ -33,7 +33,8 @@ pub struct File {
 }
 
 impl File {
-    /// The same in the types of the library, where it can be told.
+    /// The same in the types of the library, where its kind has a number and its time is an
+    /// instant.
     fn status(&self) -> Option<FileStatus>
         ensures { MatchOption result (¬ CanBeTold self.now)
             (λ file. CanBeTold self.now × IsStatusOf self.now file) }
@@ -99,6 +100,8 @@ pub extern "C" fn unftp_facts_line(
     out: &mut [u8],
     len: &mut usize,
 ) -> u32
+    // The line of MLSD for this file and name is written, or `out` is unchanged and the result
+    // reports why.
     ensures { (line : Made) × HasFactsLine file.now name.now line
         × (record { result = result; area = out.new; text_length = len.new }
         ≡ written line out.old) }
@@ -129,6 +132,8 @@ pub extern "C" fn unftp_list_line(
     out: &mut [u8],
     len: &mut usize,
 ) -> u32
+    // The line of LIST for this file and name at this time is written, or `out` is unchanged and
+    // the result reports why.
     ensures { (line : Made) × HasListLine file.now now name.now line
         × (record { result = result; area = out.new; text_length = len.new }
         ≡ written line out.old) }

@@ -40,16 +40,20 @@ pub extern "C" fn unftp_forward(
     len: &mut usize,
     clear: &mut u32,
 ) -> u32
+    // The forwarded line is written, or `out` is unchanged and the result reports why.
     ensures writes { (bytes : Made) × IsForwardedLine line.now bytes
         × (record { result = result; area = out.new; text_length = len.new }
         ≡ written bytes out.old) }
-    // Whether what is written is clear.
+    // `clear` is 1 where the result is `Done` and what is written is clear, and else 0.
     ensures clear { clear.new ≡ (if (result == status_number Done)
         && is_clear (take len.new out.new) then 1 else 0) }
-    // What is written has one line feed, its last byte, and is read as the line is.
+    // At `Done` what is written has one line feed, its last byte.
     ensures one_line { result ≡ status_number Done → IsLine (take len.new out.new) }
+    // `NoLine` never comes where the bytes are one line, with one line feed, its last byte.
     ensures is_line { IsLine line.now → result ≢ status_number NoLine }
+    // `NoLine` comes wherever the bytes are not such a line.
     ensures not_a_line { ¬ IsLine line.now → result ≡ status_number NoLine }
+    // At `Done` what is written has the same outcome as the line.
     ensures read_back { result ≡ status_number Done
         → outcome (take len.new out.new) ≡ outcome line.now }
 {

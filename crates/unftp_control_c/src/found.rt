@@ -17,6 +17,8 @@ pub extern "C" fn unftp_reply_lines(
     out: &mut [u8],
     len: &mut usize,
 ) -> u32
+    // The lines of the reply at the start, each with CR LF after it, are written, or `out` is
+    // unchanged and the result reports why.
     ensures { (text : Made) × IsFoundText bytes.now text
         × (record { result = result; area = out.new; text_length = len.new }
         ≡ written text out.old) }

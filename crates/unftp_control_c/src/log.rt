@@ -23,10 +23,13 @@ pub extern "C" fn unftp_log_line(
     len: &mut usize,
     hides: &mut u32,
 ) -> u32
+    // The log's line is written, or `out` is unchanged and the result reports why: out of memory,
+    // or no room.
     ensures writes { (bytes : Made) × IsLogLine number line.now bytes
         × (record { result = result; area = out.new; text_length = len.new }
         ≡ written bytes out.old) }
-    // Whether a part of the line is not shown.
+    // `hides` is 1 where the log's line doesn't show all of the line, and 0 where it does, or where
+    // memory ran out.
     ensures hides { hides.new ≡ (if result == status_number OutOfMemory then 0
         else (if numbered_hides number line.now then 1 else 0)) }
 {

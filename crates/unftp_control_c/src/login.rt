@@ -53,8 +53,10 @@ fn is_refused(event: u32) -> bool
 /// What is done with an event: `unftp_login_event` of include/unftp_control.h.
 #[unsafe(no_mangle)]
 pub extern "C" fn unftp_login_event(login: &mut Login, event: u32) -> u32
+    // The result is the number of what is done with this event at this stage.
     ensures step { result
         ≡ step_number (login_step (progress_of login.old.stage) (event_role event)) }
+    // The stage is then the one after this event.
     ensures stage { login.new.stage
         ≡ stage_number (login_after (progress_of login.old.stage) (event_role event)) }
 {
@@ -67,8 +69,11 @@ pub extern "C" fn unftp_login_event(login: &mut Login, event: u32) -> u32
 /// What the accounts have answered: `unftp_login_answer` of include/unftp_control.h.
 #[unsafe(no_mangle)]
 pub extern "C" fn unftp_login_answer(login: &mut Login, accepted: u32) -> u32
+    // Where the accounts were asked, the result is `Done`, and the stage is 2 where they accepted,
+    // and 0 where they did not.
     ensures asked { login.old.stage ≡ stage_number Asked → (result ≡ status_number Done)
         × (login.new.stage ≡ (if accepted == 0 then 0 else 2)) }
+    // Where they were not asked, the result is an invalid argument, and the struct is unchanged.
     ensures not_asked { login.old.stage ≢ stage_number Asked
         → (result ≡ status_number InvalidArgument) × (login.new ≡ login.old) }
 {

@@ -44,7 +44,7 @@ pub struct Line {
     pub value_at: usize,
 }
 
-/// What a caller is given of a command: its name is in the case of the line.
+/// What a caller gets of a command: its name is in the case of the line.
 #[derive(Clone, Copy)]
 struct Given<'a> {
     number: u32,
@@ -61,9 +61,11 @@ pub extern "C" fn unftp_next(
     area: &mut [u8],
     line: &mut Line,
 ) -> u32
+    // What is left is the definition's function of the arguments; or memory ran out for a complete
+    // line that may take memory, and connection and area are unchanged.
     ensures leaves { Leaves (call_with connection.old bytes.now area.old)
         (left_with result connection.new area.new line.new) }
-    // A name is UTF-8, and so is a value, but of USER, PASS, ACCT and STAT.
+    // A name is UTF-8, and so is a value, except those of USER, PASS, ACCT and STAT.
     ensures texts { HasTexts bytes.now (left_with result connection.new area.new line.new) }
 {
     *line = Line {
@@ -299,9 +301,9 @@ fn given_of_parts<'a>(parts: Parts<'a>, digits: &'a mut Buffer) -> Given<'a>
     }
 }
 
-/// Gives a line: writes its name, and its value where the line doesn't have it as it is, to the
-/// area, where that has room for both, and reports how long they are, and where the value is; the
-/// number of the command.
+/// Gives a line: writes its name to the area, and its value where the line doesn't have it as it
+/// is, where the area has room for both. Reports how long they are, and where the value is, and
+/// returns the number of the command.
 #[inline(always)]
 fn give(
     given: Given<'_>,
@@ -337,6 +339,7 @@ fn give(
 /// The line without its end, CR LF or LF.
 #[inline(always)]
 pub fn line_text(line: &[u8]) -> &[u8]
+    // It is the line without its CR LF, or else without its last byte.
     ensures { result.now ≡ line_text line.now }
 {
     let end = if line.ends_with(b"\r\n") { 2 } else { 1 };

@@ -31,8 +31,11 @@ pub extern "C" fn unftp_next_reply(
     bytes: &[u8],
     reply: &mut FoundReply,
 ) -> u32
+    // From zeros, or from what earlier calls left, it finds the first reply under the limit, or why
+    // there is none. Invalid places are reported, and change nothing.
     ensures leaves { LeavesReply (reply_call search.old bytes.now)
         (reply_left result search.new reply.new) }
+    // The reply has at most as many bytes as are pending.
     ensures within { reply.new.used ≤ length bytes.now }
 {
     *reply = FoundReply { used: 0, code: 0 };
@@ -117,6 +120,8 @@ pub struct ReplyLine {
 /// The next line of a reply: `unftp_next_reply_line` of include/unftp_control.h.
 #[unsafe(no_mangle)]
 pub extern "C" fn unftp_next_reply_line(bytes: &[u8], line: &mut ReplyLine) -> u32
+    // The struct gets the place of the line at `next`. Where no line is complete there, or `next`
+    // is past the bytes, it is unchanged, and the result reports which.
     ensures { LeavesReplyLine bytes.now line.old result line.new }
 {
     if line.next > bytes.len() {

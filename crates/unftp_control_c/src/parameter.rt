@@ -11,6 +11,8 @@ use unftp_control_message::sent::Sent;
 /// The parameter of a line: `unftp_parameter` of include/unftp_control.h.
 #[unsafe(no_mangle)]
 pub extern "C" fn unftp_parameter(line: &[u8], out: &mut [u8], len: &mut usize) -> u32
+    // The value of the line's parameter is written, or `out` is unchanged and the result reports an
+    // invalid line ending or no room.
     ensures { record { result = result; area = out.new; text_length = len.new }
         ≡ written (parameter_bytes line.now) out.old }
 {
@@ -20,6 +22,8 @@ pub extern "C" fn unftp_parameter(line: &[u8], out: &mut [u8], len: &mut usize) 
 /// The path of LIST or NLST: `unftp_list_path` of include/unftp_control.h.
 #[unsafe(no_mangle)]
 pub extern "C" fn unftp_list_path(line: &[u8], out: &mut [u8], len: &mut usize) -> u32
+    // The path of LIST in that value is written, or `out` is unchanged and the result reports an
+    // invalid line ending or no room.
     ensures { record { result = result; area = out.new; text_length = len.new }
         ≡ written (list_path_bytes line.now) out.old }
 {

@@ -23,9 +23,11 @@ use unftp_control_read::find_reply;
 /// The bytes of a reply: `unftp_reply` of include/unftp_control.h.
 #[unsafe(no_mangle)]
 pub extern "C" fn unftp_reply(code: u32, text: &[u8], out: &mut [u8], len: &mut usize) -> u32
+    // The bytes of the reply with this code and text are written, or `out` is unchanged and the
+    // result reports an unknown code or no room.
     ensures writes { record { result = result; area = out.new; text_length = len.new }
         ≡ written (reply_bytes code text.now) out.old }
-    // A client finds exactly this reply in the bytes.
+    // At `Done` a client finds exactly this reply in what is written.
     ensures read_back { result ≡ status_number Done
         → ReadsBack (take len.new out.new) (text_reply code text.now ∷ []) }
 {
@@ -41,7 +43,7 @@ pub extern "C" fn unftp_reply(code: u32, text: &[u8], out: &mut [u8], len: &mut 
     write_lines(code, text, out, len)
 }
 
-/// Whether an area of so many bytes has room for the reply of any lines of so long a text: a byte
+/// Whether an area of so many bytes has room for the reply of any lines of so long a text. A byte
 /// of the text takes three at most, and the two codes take ten with what is around them.
 fn surely_fit(text_len: usize, area_len: usize) -> bool
     ensures { IsTrue result ↔ (3 * text_len + 10 ≤ area_len) }
@@ -64,6 +66,8 @@ fn write_fitting_lines(code: u32, text: &[u8], area: &mut [u8], len: &mut usize)
 /// Writes the reply of one line to the start of the area, where it has room for it, and reports how
 /// long it is: the number of what has come of it.
 pub fn write_line(code: u32, text: &[u8], area: &mut [u8], len: &mut usize) -> u32
+    // The reply of one line is written where the area has room for it. Otherwise the area is
+    // unchanged, and the length is the room that is needed.
     ensures { record { result = result; area = area.new; text_length = len.new }
         ≡ filled (encoded (CodeAndMsg code text.now)) area.old }
 {
@@ -174,6 +178,8 @@ fn is_one_line(text: &[u8]) -> bool
 /// The path between double quotes: `unftp_quoted_path` of include/unftp_control.h.
 #[unsafe(no_mangle)]
 pub extern "C" fn unftp_quoted_path(path: &[u8], out: &mut [u8], len: &mut usize) -> u32
+    // The path between double quotes is written where `out` has room for it. Otherwise `out` is
+    // unchanged, and `len` is the room that is needed.
     ensures { record { result = result; area = out.new; text_length = len.new }
         ≡ filled (quoted path.now) out.old }
 {
@@ -198,14 +204,18 @@ pub struct FoundReply {
 /// Finds the reply at the start: `unftp_front_reply` of include/unftp_control.h.
 #[unsafe(no_mangle)]
 pub extern "C" fn unftp_front_reply(bytes: &[u8], reply: &mut FoundReply) -> u32
+    // At `Done` the bytes begin with a reply of this code and length.
     ensures found { result ≡ status_number Done
         → ((lines : List Bytes) × FrontReply bytes.now reply.new.code lines reply.new.used)
         × (reply.new.used ≤ length bytes.now) }
+    // Where the bytes begin with a reply, the result is `Done`, with its code and length.
     ensures whole { (code : ℕ) (lines : List Bytes) (used : ℕ)
         → FrontReply bytes.now code lines used
         → (result ≡ status_number Done) × (reply.new ≡ record { used = used; code = code }) }
+    // Where more bytes are needed for a reply, the result is `More`, and code and length are 0.
     ensures more { IsPartial bytes.now
         → (result ≡ status_number More) × (reply.new ≡ record { used = 0; code = 0 }) }
+    // Where the bytes are malformed, the result is `Malformed`, and code and length are 0.
     ensures malformed { IsMalformed bytes.now
         → (result ≡ status_number Malformed) × (reply.new ≡ record { used = 0; code = 0 }) }
 {

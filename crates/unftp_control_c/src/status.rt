@@ -31,9 +31,8 @@ pub enum Status {
     Malformed = 109,
     /// No reply has this code.
     UnknownCode = 110,
-    /// The offset is past the pending bytes, or is not 0 while bytes are skipped, or the flag is
-    /// greater than 1; or a place of a search is past its offset, or this past the pending bytes; or
-    /// what is shown of a line is not printable.
+    /// An argument is invalid, such as an offset past the pending bytes: include/unftp_control.h
+    /// lists them for each call.
     InvalidArgument = 111,
     /// The text has no such address.
     NoAddress = 112,
@@ -46,6 +45,7 @@ pub enum Status {
 impl Status {
     /// Its number.
     pub fn number(self) -> u32
+        // It is the definition's number of the status.
         ensures { result ≡ status_number self }
     {
         self as u32
@@ -54,6 +54,7 @@ impl Status {
 
 /// Why the parser refuses a line.
 pub fn kind_status(kind: &ParseErrorKind) -> Status
+    // It is the status of the same name.
     ensures { result ≡ kind_status kind.now }
 {
     match kind {
@@ -66,6 +67,7 @@ pub fn kind_status(kind: &ParseErrorKind) -> Status
 
 /// Why a command has no line.
 pub fn line_status(error: &WriteCommandError) -> Status
+    // It is the status of the same name.
     ensures { result ≡ line_status error.now }
 {
     match error {

@@ -20,6 +20,8 @@ pub extern "C" fn unftp_usual_reply(
     out: &mut [u8],
     len: &mut usize,
 ) -> u32
+    // The usual reply by this number and value is written, or `out` is unchanged and the result
+    // reports why: an invalid argument, or no room.
     ensures { record { result = result; area = out.new; text_length = len.new }
         ≡ written (usual_bytes event value.now) out.old }
 {
@@ -34,6 +36,8 @@ pub extern "C" fn unftp_login_reply(
     out: &mut [u8],
     len: &mut usize,
 ) -> u32
+    // The gate's reply at this step is written, or `out` is unchanged and the result reports why:
+    // an invalid argument, or no room.
     ensures { record { result = result; area = out.new; text_length = len.new }
         ≡ written (login_bytes step accepted) out.old }
 {

@@ -5,6 +5,7 @@ ghost use Rattle.std.specs.Prelude.{◌≡◌};
 /// the minor times 1,000, and the patch.
 #[unsafe(no_mangle)]
 pub extern "C" fn unftp_version() -> u32
+    // It is the number of the library's version.
     ensures { result ≡ 4000 }
 {
     4_000

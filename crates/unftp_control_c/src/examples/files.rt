@@ -18,7 +18,7 @@ pub fn files_have_kinds_and_times()
     ensures unknown { second_of untold ≡ None }
 {}
 
-/// A file of which nothing is told, with a name that is of one line and with one that isn't.
+/// A file with zeros only, with a name that is of one line and with one that isn't.
 pub fn names_of_two_lines_are_invalid()
     ensures line_feed { HasFactsLine untold (codes "a\n") (Err InvalidArgument) }
     ensures memory { HasFactsLine untold (codes "a") (Err OutOfMemory) }

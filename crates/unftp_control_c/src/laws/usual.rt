@@ -1,4 +1,4 @@
-//! What the usual replies and those of a login are to.
+//! Laws of the usual replies, and of those of a login.
 ghost use Rattle.std.specs.Prelude.{◌≡◌, ◌≢◌, ◌≤◌, ℕ, Ok, Err};
 ghost use Rattle.unftp_control_defs.specs.Bytes.{Bytes};
 ghost use Rattle.unftp_control_defs.specs.Events.{FtpEvent};
@@ -16,30 +16,34 @@ ghost use Rattle.unftp_control_c.specs.declared.status.Status.TheVariants.{Inval
 
 /// Each event has its usual reply, and no other number has one.
 pub fn usual_replies_are_of_events()
-    // The number and the value that `unftp_next` gives of an event say its reply.
+    // The number and the value that `unftp_next` gives for an event have the usual reply to it.
     ensures events { (event : FtpEvent)
         → usual_bytes (given_for event).number (given_for event).value
         ≡ Ok (encoded (usual_reply event)) }
-    // Every number has one but those of no event,
+    // A number that is neither from 1 to 44 nor from 102 to 106 is an invalid argument.
     ensures numbers { (number : ℕ) (value : Bytes) → ¬ ((1 ≤ number) × (number ≤ 44))
         → ¬ ((102 ≤ number) × (number ≤ 106)) → usual_bytes number value ≡ Err InvalidArgument }
-    // and where there is none, the number is that of no event.
+    // Where there is no reply, the number is an invalid argument and that of no event.
     ensures no_event { (number : ℕ) (value : Bytes) (status : Status)
         → usual_bytes number value ≡ Err status → (status ≡ InvalidArgument)
         × ((event : FtpEvent) → (given_for event).number ≢ number) }
-    // A client reads each reply back as it is, and it has at most 64 bytes.
+    // A client reads each usual reply back as it is.
     ensures readable { (event : FtpEvent) → IsReadable (usual_reply event) }
+    // What is written has at most 64 bytes.
     ensures room { (number : ℕ) (value out : Bytes)
         → (written (usual_bytes number value) out).text_length ≤ 64 }
 {}
 
 /// The replies of a login are those of the gate in Rattle to the same events.
 pub fn login_replies_are_of_the_gate()
-    // An event that is passed on has none.
+    // The reply at a step is the one in the gate's decision there. An event that is passed on has
+    // none.
     ensures decided { (step : LoginStep) (accepts : Accounts) (name : Bytes) (event : FtpEvent)
         → step_reply step (accepts name (password_in event))
         ≡ own_reply (decision_at step accepts name event) }
+    // The number of a step is read as that step.
     ensures steps { (step : LoginStep) → step_of (step_number step) ≡ step }
+    // What is written has at most 64 bytes.
     ensures room { (step accepted : ℕ) (out : Bytes)
         → (written (login_bytes step accepted) out).text_length ≤ 64 }
 {}
