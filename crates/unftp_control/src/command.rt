@@ -7,6 +7,7 @@ pub use unftp_control_message::{AuthParam, Command, ModeParam, Opt, ProtParam, S
 
 /// `==` of commands is equality of what they mean.
 pub fn same_commands()
+    // `==` returns true exactly for commands with the same meaning.
     ensures { (a b : RustCommand)
         → IsTrue (⟦<Command as PartialEq>⟧.eq a b) ↔ (command_of a ≡ command_of b) }
 {}

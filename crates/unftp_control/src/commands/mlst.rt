@@ -31,6 +31,7 @@ impl Model for Mlst {
 impl Mlst {
     /// MLST with this path.
     pub fn new(path: Option<String>) -> Mlst
+        // The command's path is the one passed in.
         ensures { result ≡ option_map string_bytes path }
     {
         Mlst { path }
@@ -46,19 +47,22 @@ impl Mlst {
         }
     }
 
-    /// 250 with the facts of what was found and its path, which is the working directory where the
-    /// command has none (RFC 3659, section 7); or 550 with the text of the fault that came in its
-    /// place. It fails only when out of memory, with the kind `OutOfMemory`.
+    /// 250 with the facts of what was found and its path (RFC 3659, section 7), or 550 with the
+    /// text of the fault that came in its place. The path is the working directory where the
+    /// command has none. It fails only when out of memory, with the kind `OutOfMemory`.
     pub fn reply<M: Metadata>(
         &self,
         alloc: Global,
         cwd: &str,
         found: Result<&M, &str>,
     ) -> Result<Reply, ControlChanError>
+        // At `Ok` the reply is 250 with the facts of what was found and the path, or 550 with the
+        // text of the fault.
         ensures ok { IfOk result (λ reply. MatchResult found.entry
             (λ metadata. IsFactsReply (M.facts_of metadata.now) (unwrap_or self.now cwd.now)
             (reply_of reply))
             (λ text. reply_of reply ≡ CodeAndMsg 550 text.now)) }
+        // The only error is out of memory.
         ensures err { IfErr result (λ error. fault_of error ≡ out_of_memory) }
     {
         match found {
@@ -79,8 +83,11 @@ impl Mlst {
         cwd: &str,
         facts: &str,
     ) -> Result<Reply, ControlChanError>
+        // At `Ok` the reply is 250 with these facts and the path, or the working directory where
+        // the command has none.
         ensures ok { IfOk result (λ reply. reply_of reply
             ≡ facts_reply facts.now (unwrap_or self.now cwd.now)) }
+        // The only error is out of memory.
         ensures err { IfErr result (λ error. fault_of error ≡ out_of_memory) }
     {
         facts_reply(alloc, facts, self.path_or(cwd))

@@ -19,37 +19,42 @@ use unftp_control_serve::Session;
 
 /// The lines of a client arrive, whatever they hold.
 pub fn lines_arrive()
-    // The canonical lines of the commands are these commands; and any lines are one event each.
+    // Where each command has a line within the limit, and fields of their types, the server's
+    // events are the commands, in order.
     ensures commands { (limit : Option ℕ) (commands : List FtpCommand)
         → AllByRecursion (CanBeSent limit) commands
         → events limit (sent commands) ≡ map Command commands }
+    // Any lines, each with one line feed, its last byte, are one event each, in order.
     ensures lines { (limit : Option ℕ) (lines : List Bytes) → AllByRecursion IsLine lines
         → events limit (concat lines) ≡ map (event_for limit) lines }
 {}
 
 /// A client that writes lines and takes replies, and a server that answers its input, understand
-/// each other, whatever the pieces in either direction: where each reply is sent and plain, the
+/// each other, whatever the pieces in either direction. Where each reply is sent and plain, the
 /// client reads exactly those that the handler gives, in order. Where those to each line are some
-/// preliminary ones and then a final one, the client that cuts them after each final one has for
-/// each line of the run, at its place, what the handler said to the line there. So a refused line
+/// preliminary ones and then a final one, the client cuts them after each final one. Then it has
+/// for each line of the run, at its place, the handler's replies to that line. So a refused line
 /// costs one reply, as any other. What the server writes is `text_for`, by the contract of `serve`;
-/// where its run ends, `one_run` says (RFC 959, sections 4.2, 5.3 and 5.4).
+/// where its run ends is in `one_run` (RFC 959, sections 4.2, 5.3 and 5.4).
 pub fn conversation<H: Session>()
-    // The replies that the client has taken so far are the first ones,
+    // Where each reply of the run is readable, the replies that the client has taken are the run's
+    // first, in order, whatever the pieces.
     ensures so_far { (heard : List H.Heard) (limit : Option ℕ) (s : H.State) (input : Bytes)
         (steps : List (TakingStep (ℕ × List Bytes))) (pending later : Bytes)
         → let all = replies (H.law heard) s (run_for limit (H.law heard) s input) in
         AllByRecursion IsReadable all → AreTakingSteps TakesReply [] steps pending
         → all_pushed steps ++ later ≡ text_for limit (H.law heard) s input
         → (more : List (ℕ × List Bytes)) × Show (all_taken steps ++ more) all }
-    // and once all bytes came and no more can be taken, they are all, and no byte is pending.
+    // Where each is readable, all bytes came and no more can be taken, the client has taken all
+    // replies, and no byte is pending.
     ensures all { (heard : List H.Heard) (limit : Option ℕ) (s : H.State) (input : Bytes)
         (steps : List (TakingStep (ℕ × List Bytes))) (pending : Bytes)
         → let all = replies (H.law heard) s (run_for limit (H.law heard) s input) in
         AllByRecursion IsReadable all → AreTakingSteps TakesReply [] steps pending
         → all_pushed steps ≡ text_for limit (H.law heard) s input → ¬ HasFront pending
         → Show (all_taken steps) all × (pending ≡ []) }
-    // Then each line has its own replies.
+    // Where all replies of the run were read, and those to each event are an exchange, cutting them
+    // after each final reply gives each line its own replies, in order.
     ensures turns { (heard : List H.Heard) (limit : Option ℕ) (s : H.State) (input : Bytes)
         (read : List (ℕ × List Bytes))
         → let run = run_for limit (H.law heard) s input in
@@ -59,13 +64,15 @@ pub fn conversation<H: Session>()
         × (length (cut_reads read) ≡ length run) }
 {}
 
-/// Whatever the order in which a client sends lines, pieces come to either end and replies are
-/// taken: where each reply of the server is sent and plain, and those to each line are some
-/// preliminary ones and then a final one, the replies that the client has taken are the first ones,
-/// that to the greeting and then those to each of its lines, each at its place; and once all bytes
-/// came and no more can be taken, they are all, and no byte is pending (RFC 959, sections 4.2 and
-/// 5.4). It joins `conversation` with the law `replies_are_exchanges` of clients.
+/// A client may send lines, pieces may come to either end and replies may be taken in any order. A
+/// server is understood where each of its replies is sent and plain, and those to each line are
+/// some preliminary ones and then a final one. Then the replies that the client has taken are the
+/// first ones: that to the greeting, and then those to each of its lines, each at its place. Once
+/// all bytes came and no more can be taken, they are all, and no byte is pending (RFC 959, sections
+/// 4.2 and 5.4). The law joins `conversation` with the law `replies_are_exchanges` of clients.
 pub fn any_order<H: Session>()
+    // Where the server is understood, the replies that the client has taken are the first, to the
+    // greeting and then to each line, each with its command.
     ensures so_far { (heard : List H.Heard) (state : H.State) (limit client_limit : Option ℕ)
         (greeting : FtpReply) (acts : List Act) (client : RustClient)
         → let server : Server H.State =
@@ -74,6 +81,8 @@ pub fn any_order<H: Session>()
         → IsUnderstood (turns_to server (sent_by_client acts))
         → AreFirst (taken_by_client acts)
         (exchanges Greeting (turns_to server (sent_by_client acts))) }
+    // Where the server is understood, all bytes came and no more can be taken, the client has taken
+    // all replies, and no byte is pending.
     ensures all { (heard : List H.Heard) (state : H.State) (limit client_limit : Option ℕ)
         (greeting : FtpReply) (acts : List Act) (client : RustClient)
         → let server : Server H.State =
@@ -91,21 +100,30 @@ pub fn any_order<H: Session>()
 /// of the input, nor what a server writes. Such are the canonical line of a command, and the line
 /// that `forward` writes for it; a line that is refused is sent as it is.
 pub fn canonical_lines_change_nothing<H: Session>()
+    // Replacing each line that is a command by its canonical line keeps the meaning of each line.
     ensures canonical { KeepsMeaning canonical_of }
+    // Replacing each line that is a command by its forwarded line keeps the meaning of each line.
     ensures forwarded { KeepsMeaning forwarded_of }
+    // Where each line of an input is replaced by one that means the same, the events without a
+    // limit are the same.
     ensures same_events { (rewrite : Bytes → Bytes) (input : Bytes) → KeepsMeaning rewrite
         → events None (rewritten rewrite input) ≡ events None input }
-    // Under a limit too, where each line is within it before and after.
+    // Where each line is also within a limit before and after, the events under that limit are the
+    // same.
     ensures within { (rewrite : Bytes → Bytes) (limit : ℕ) (input : Bytes)
         → KeepsMeaning rewrite
         → AllByRecursion (λ line. (length line ≤ limit) × (length (rewrite line) ≤ limit))
         (lines_of input)
         → events (Some limit) (rewritten rewrite input) ≡ events (Some limit) input }
+    // Where each line of an input is replaced by one that means the same, a server without a limit
+    // writes the same.
     ensures written { (heard : List H.Heard) (rewrite : Bytes → Bytes) (s : H.State)
         (input : Bytes)
         → KeepsMeaning rewrite
         → text_for None (H.law heard) s (rewritten rewrite input)
         ≡ text_for None (H.law heard) s input }
+    // Where each line is also within a limit before and after, a server with that limit writes the
+    // same.
     ensures written_within { (heard : List H.Heard) (rewrite : Bytes → Bytes) (limit : ℕ)
         (s : H.State) (input : Bytes)
         → KeepsMeaning rewrite
@@ -113,6 +131,8 @@ pub fn canonical_lines_change_nothing<H: Session>()
         (lines_of input)
         → text_for (Some limit) (H.law heard) s (rewritten rewrite input)
         ≡ text_for (Some limit) (H.law heard) s input }
+    // Where each line of an input is replaced by one that means the same, the incomplete line is
+    // the same.
     ensures incomplete { (rewrite : Bytes → Bytes) (input : Bytes) → KeepsMeaning rewrite
         → incomplete_line (rewritten rewrite input) ≡ incomplete_line input }
 {}

@@ -15,12 +15,15 @@ ghost use Rattle.unftp_control.specs.Conversation.{Show, ShowTurns};
 
 use unftp_control_serve::Session;
 
-/// Through a proxy that sends for each line one that means the same, and gives each reply as it
-/// came, a client understands a server that takes lines of any length as with no proxy between:
-/// whatever the pieces, the replies that it takes from what it was given are the first ones of
-/// those to the greeting and to each of its own lines, in order (RFC 959, sections 4.2 and 5.4).
-/// What the proxy took of the server's bytes may be a beginning of them, so it holds at each time.
+/// A proxy changes nothing where it sends for each line one that means the same, and gives each
+/// reply as it came. Through such a proxy a client understands a server that takes lines of any
+/// length as with no proxy between. Whatever the pieces, the replies that it takes are the first
+/// ones: that to the greeting, and then those to each of its own lines, in order (RFC 959, sections
+/// 4.2 and 5.4). What the proxy took of the server's bytes may be a beginning of them, so it holds
+/// at each time.
 pub fn conversation_through_a_proxy<H: Session>()
+    // Before an understood server without a limit, the replies that a client takes through a proxy
+    // that changes nothing are the first, to the greeting and then its own lines.
     ensures so_far { (heard : List H.Heard) (state : H.State) (greeting : FtpReply)
         (limits : RustLimits) (traffic : Traffic) (later : ProxyState)
         (steps : List (TakingStep (ℕ × List Bytes))) (pending more : Bytes)
@@ -33,7 +36,8 @@ pub fn conversation_through_a_proxy<H: Session>()
         → all_pushed steps ++ more ≡ traffic.to_client
         → (unread : List (ℕ × List Bytes)) × Show (all_taken steps ++ unread)
         (all_replies (turns_to server (concat (client_lines traffic.lines)))) }
-    // Once all came, they are all, each line has its own, and no byte is pending.
+    // Once all came and no more can be taken, each line of the client has its own replies, and no
+    // byte is pending.
     ensures all { (heard : List H.Heard) (state : H.State) (greeting : FtpReply)
         (limits : RustLimits) (traffic : Traffic) (later : ProxyState)
         (steps : List (TakingStep (ℕ × List Bytes))) (pending : Bytes)

@@ -28,7 +28,7 @@ pub fn errors_of_serve()
 {}
 
 /// An input without its last line feed that was served whole, of a reader and a writer whose
-/// contracts know nothing, such as sockets: what was read and written is in their records, after
+/// contracts know nothing, such as sockets. What was read and written is in their records, after
 /// what was there before.
 pub fn any_stream_is_served()
     ensures whole { (after : Snapshot ℕ) (input : InputState) (served : Served)
