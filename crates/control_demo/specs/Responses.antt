@@ -8,15 +8,16 @@ use Rattle.unftp_control_defs.specs.Texts.{reading_text, kind_text}
 use Rattle.unftp_control_defs.specs.Run.{Law}
 use Rattle.unftp_control_commands.specs.Answers.{auth_reply, prot_reply, facts_reply, feat_reply, port_reply, help_reply, mode_reply, opts_reply, stru_reply}
 
--- the facts of the one file that the handler knows, of 1,234 bytes and changed on 1 December 2023
--- at noon (RFC 3659, section 7.5)
+-- the facts of the one file that the handler knows: it has 1,234 bytes, and was last modified on 1
+-- December 2023 at noon (RFC 3659, section 7.5)
 abbrev pub facts : Bytes
 facts = codes "type=file;size=1234;modify=20231201120000;"
 
+-- the reply to any other command
 abbrev pub not_implemented : FtpReply
 not_implemented = CodeAndMsg 502 (codes "Not implemented")
 
--- SITE ECHO says its arguments again
+-- SITE ECHO returns its arguments
 abbrev pub site_reply : Bytes → Bytes → FtpReply
 site_reply name arguments =
     if bytes_eq name (codes "ECHO") then CodeAndMsg 200 arguments else not_implemented
@@ -43,6 +44,7 @@ abbrev pub refusal_text : FaultKind → FaultSource → Bytes
 refusal_text kind (Parse why) = reading_text why
 refusal_text kind _ = kind_text kind
 
+-- the reply to an event: to a command, or 500 to a refused line
 abbrev pub event_reply : FtpEvent → FtpReply
 event_reply (Command command) = command_reply command
 event_reply (Refused fault) = CodeAndMsg 500 (refusal_text fault.kind fault.source)

@@ -28,8 +28,8 @@ pub fn run<R: Read, W: Write>(
     reader: &mut Input<R>,
     writer: &mut Output<W>,
 ) -> Result<Served, ServeError>
-    // At Ok, of any reader and any writer, sockets and standard input and output too: exactly the
-    // replies to the lines that the reads gave were written and flushed, up to QUIT.
+    // At `Ok`, over any streams, exactly the replies to the lines that the reads gave were written
+    // and flushed, up to QUIT.
     ensures serves { IfOk result (λ served. (quit : Bool) × (failures : ℕ)
         × Serves None (as_session responses_law)
         (record { state = false; failures = 0; output = output_state_of W.contents writer.old })
@@ -43,7 +43,8 @@ pub fn run<R: Read, W: Write>(
     // A client reads these replies, and nothing else, where each of them is plain.
     ensures read_back { OnOk result (AreReadBack None (as_session responses_law) false
         (input_state_of R.remaining reader.old) (input_state_of R.remaining reader.new)) }
-    // What is so at each error, for some last state of the handler and count of its failures.
+    // At an error the call leaves what `serve` leaves, for some last state of the handler and some
+    // count of its failures.
     ensures err { IfErr result (λ error. (quit : Bool) × (failures : ℕ)
         × ServeEnded None (as_session responses_law)
         (record { state = false; failures = 0; output = output_state_of W.contents writer.old })

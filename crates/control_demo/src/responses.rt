@@ -34,7 +34,9 @@ pub struct Responses {
 impl Responses {
     /// A handler to which no QUIT came, and which has not failed so far.
     pub fn new() -> Responses
+        // No QUIT came.
         ensures quit { result.quit ≡ false }
+        // It has not failed.
         ensures failures { result.failures ≡ 0 }
     {
         Responses {
