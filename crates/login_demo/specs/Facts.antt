@@ -1,4 +1,4 @@
--- What is said of an entry of the tree, or of none.
+-- The replies about an entry of the tree, or about none.
 use Rattle.std.specs.Prelude.{◌++◌, decimal, Option, Some, None, codes}
 use Rattle.unftp_control_defs.specs.Bytes.{Bytes}
 use Rattle.unftp_control_commands.specs.Answers.{facts_reply}
@@ -40,6 +40,7 @@ abbrev pub mlst_reply : Option Entry → FtpReply
 mlst_reply (Some one) = facts_reply (entry_facts one) (path_text (entry_names one))
 mlst_reply None = CodeAndMsg 550 (codes "No such file or directory")
 
+-- the reply where a path leads to no file
 abbrev pub no_file : FtpReply
 no_file = CodeAndMsg 550 (codes "No such file")
 

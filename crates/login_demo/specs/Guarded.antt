@@ -16,6 +16,7 @@ state_of_files files = files.session
 abbrev pub failures_of_files : Files → ℕ
 failures_of_files files = files.failures
 
+-- the law of the gate with the tree
 abbrev pub guarded_law : SessionLaw (AskedGate Session)
 guarded_law = asked_law (as_session files_law)
 

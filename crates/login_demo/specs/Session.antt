@@ -1,4 +1,4 @@
--- A session: what is answered to its events, and which state follows.
+-- A session: the replies to its events, and which state follows.
 use Rattle.std.specs.Prelude.{◌≡◌, true, false, Option, Some, unwrap_or, codes}
 use Rattle.unftp_control_defs.specs.Bytes.{Bytes}
 use Rattle.unftp_control_defs.specs.Events.{FtpEvent, Command, Refused, out_of_memory}
@@ -15,6 +15,7 @@ use Rattle.login_demo.specs.Walking.{walked}
 use Rattle.login_demo.specs.Facts.{pwd_reply, mlst_reply, size_reply, mdtm_reply}
 use Rattle.login_demo.specs.Standing.{standing_reply, refusal_reply}
 
+-- at the root, and no QUIT came
 abbrev pub new_session : Session
 new_session = record { directory = Root; is_over = false }
 
@@ -32,7 +33,7 @@ abbrev pub moved_to : Directory → Option Entry → Directory
 moved_to directory (Some (entry.Directory next)) = next
 moved_to directory _ = directory
 
--- what is said in a directory by commands that change nothing
+-- the reply in a directory to a command that changes nothing
 abbrev pub tree_reply : Directory → FtpCommand → FtpReply
 tree_reply directory Pwd = pwd_reply directory
 tree_reply directory (Mlst path) = mlst_reply (found directory (unwrap_or path (codes ".")))
@@ -40,6 +41,7 @@ tree_reply directory (Size path) = size_reply (found directory path)
 tree_reply directory (Mdtm path) = mdtm_reply (found directory path)
 tree_reply directory command = standing_reply command
 
+-- the reply in a directory to any command
 abbrev pub command_reply : Directory → FtpCommand → FtpReply
 command_reply directory (Cwd path) = moved_reply (found directory path)
 command_reply directory Cdup = moved_reply (found directory (codes ".."))
@@ -57,10 +59,12 @@ session_after session (User name) = record session { directory = Root }
 session_after session Quit = record session { is_over = true }
 session_after session command = session
 
+-- the reply to an event: to a command, or to a refused line
 abbrev pub event_reply : Session → FtpEvent → FtpReply
 event_reply session (Command command) = command_reply session.directory command
 event_reply session (Refused fault) = refusal_reply fault
 
+-- the session after an event: a refused line changes nothing
 abbrev pub event_session : Session → FtpEvent → Session
 event_session session (Command command) = session_after session command
 event_session session (Refused fault) = session

@@ -7,6 +7,7 @@ use Rattle.unftp_control_defs.specs.FtpCommand.{FtpCommand, Pass, Acct, Syst, Ty
 use Rattle.unftp_control_defs.specs.FtpReply.{FtpReply, CodeAndMsg}
 use Rattle.unftp_control_defs.specs.Texts.{kind_text, reading_text}
 
+-- the reply to a command that needs a data connection
 abbrev pub no_data_connection : FtpReply
 no_data_connection = CodeAndMsg 425 (codes "No data connection")
 
@@ -43,6 +44,7 @@ commands_reply = help_reply_with
     (codes "Commands:" ∷ codes " ABOR ACCT ALLO CDUP CWD FEAT HELP MDTM MLST MODE NOOP OPTS"
     ∷ codes " PASS PWD QUIT SITE SIZE STRU SYST TYPE USER" ∷ codes "END" ∷ [])
 
+-- SITE, by its subcommand
 abbrev pub site_reply : Bytes → FtpReply
 site_reply name = if bytes_eq name (codes "HELP")
     then CodeAndMsg 214 (codes "SITE has HELP only")
@@ -60,7 +62,7 @@ standing_reply Help = commands_reply
 standing_reply (Site name arguments) = site_reply name
 standing_reply command = fixed_reply command
 
--- what is said of a line that is too long, and of any other error that has no line
+-- the text for a line that is too long, and for any other error that has no line
 abbrev pub unread_text : FaultKind → Bytes
 unread_text LineTooLong = kind_text LineTooLong
 unread_text _ = codes "Not understood"
@@ -76,5 +78,6 @@ abbrev pub refusal_code : FaultSource → ℕ
 refusal_code (Parse (Some InvalidCommand)) = 501
 refusal_code _ = 500
 
+-- the reply to a refused line
 abbrev pub refusal_reply : Fault → FtpReply
 refusal_reply fault = CodeAndMsg (refusal_code fault.source) (refusal_text fault.kind fault.source)

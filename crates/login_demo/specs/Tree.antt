@@ -9,6 +9,7 @@ use Rattle.login_demo.specs.declared.tree.File.TheVariants.{Readme, Today}
 use Rattle.login_demo.specs.declared.tree.Entry.{Entry}
 use Rattle.login_demo.specs.declared.tree.Entry.TheVariants as entry
 
+-- the names of an entry from the root
 abbrev pub entry_names : Entry → List Bytes
 entry_names (entry.Directory Root) = []
 entry_names (entry.Directory Pub) = codes "pub" ∷ []
@@ -22,6 +23,7 @@ all_entries =
     entry.Directory Root ∷ entry.Directory Pub ∷ entry.Directory Notes ∷ entry.Directory Quoted
     ∷ entry.File Readme ∷ entry.File Today ∷ []
 
+-- whether these are the entry's names from the root
 abbrev pub has_names : List Bytes → Entry → Bool
 has_names names one = pointwise bytes_eq (entry_names one) names
 

@@ -1,4 +1,4 @@
-//! What is said of an entry of the tree, or of none.
+//! The replies about an entry of the tree, or about none.
 ghost use Rattle.std.specs.Prelude.{◌≡◌, IfOk, IfErr};
 ghost use Rattle.unftp_control_message.specs.ErrorMeaning.{fault_of};
 ghost use Rattle.unftp_control_defs.specs.Events.{out_of_memory};
@@ -25,6 +25,7 @@ pub struct EntryFacts {
 impl EntryFacts {
     /// The facts of this entry.
     pub fn new(entry: Entry) -> EntryFacts
+        // The text of its facts is the definition's for the entry.
         ensures { IsFacts (facts_known result) (entry_facts entry) }
     {
         match entry {
@@ -68,7 +69,9 @@ impl Metadata for EntryFacts {
 
 /// The reply to PWD in this directory. It fails only when out of memory.
 pub fn pwd_reply(alloc: Global, directory: Directory) -> Result<Reply, ControlChanError>
+    // At `Ok` the reply is 257 with the path of this directory between double quotes.
     ensures ok { IfOk result (λ reply. reply_of reply ≡ pwd_reply directory) }
+    // The only error is out of memory.
     ensures err { IfErr result (λ error. fault_of error ≡ out_of_memory) }
 {
     let path = path_text(alloc, Entry::Directory(directory).names())?;
@@ -77,9 +80,11 @@ pub fn pwd_reply(alloc: Global, directory: Directory) -> Result<Reply, ControlCh
     Ok(Reply::new_with_string(ReplyCode::DirCreated, text))
 }
 
-/// The reply to MLST whose path leads to this. It fails only when out of memory.
+/// The reply to MLST with a path that leads to this. It fails only when out of memory.
 pub fn mlst_reply(alloc: Global, found: Option<Entry>) -> Result<Reply, ControlChanError>
+    // At `Ok` the reply is 250 with the facts of what was found and its path from the root, or 550.
     ensures ok { IfOk result (λ reply. reply_of reply ≡ mlst_reply found) }
+    // The only error is out of memory.
     ensures err { IfErr result (λ error. fault_of error ≡ out_of_memory) }
 {
     match found {
@@ -92,9 +97,11 @@ pub fn mlst_reply(alloc: Global, found: Option<Entry>) -> Result<Reply, ControlC
     }
 }
 
-/// The reply to SIZE whose path leads to this. It fails only when out of memory.
+/// The reply to SIZE with a path that leads to this. It fails only when out of memory.
 pub fn size_reply(alloc: Global, found: Option<Entry>) -> Result<Reply, ControlChanError>
+    // At `Ok` the reply is 213 with the size of the file that was found, or 550 where no file was.
     ensures ok { IfOk result (λ reply. reply_of reply ≡ size_reply found) }
+    // The only error is out of memory.
     ensures err { IfErr result (λ error. fault_of error ≡ out_of_memory) }
 {
     match found {
@@ -107,9 +114,11 @@ pub fn size_reply(alloc: Global, found: Option<Entry>) -> Result<Reply, ControlC
     }
 }
 
-/// The reply to MDTM whose path leads to this. It fails only when out of memory.
+/// The reply to MDTM with a path that leads to this. It fails only when out of memory.
 pub fn mdtm_reply(alloc: Global, found: Option<Entry>) -> Result<Reply, ControlChanError>
+    // At `Ok` the reply is 213 with the time of the file that was found, or 550 where no file was.
     ensures ok { IfOk result (λ reply. reply_of reply ≡ mdtm_reply found) }
+    // The only error is out of memory.
     ensures err { IfErr result (λ error. fault_of error ≡ out_of_memory) }
 {
     match found {

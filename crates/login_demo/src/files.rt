@@ -20,7 +20,9 @@ pub struct Files {
 impl Files {
     /// A session at its beginning, at the root, which has not failed so far.
     pub fn new() -> Files
+        // The session is at its beginning.
         ensures session { result.session ≡ new_session }
+        // It has not failed.
         ensures failures { result.failures ≡ 0 }
     {
         Files {

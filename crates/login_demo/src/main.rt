@@ -55,8 +55,11 @@ const ACCOUNTS: &[Account] = &[
 
 /// A gate before the first event, behind which who has logged in finds the tree.
 pub fn files_gate<A: Accounts>(accounts: A) -> Gate<A, Files>
+    // The gate is before its first event, with these accounts, and at most three logins may fail.
     ensures state { gated A.accepts state_of_files result ≡ first_gate (A.accepts accounts) }
+    // The accounts have not been asked.
     ensures asked { result.accounts.questions ≡ [] }
+    // The handler has not failed.
     ensures failures { failures_of failures_of_files result.inner ≡ 0 }
 {
     let limit = LoginLimit::new(FAILED_LOGINS);
@@ -72,8 +75,8 @@ pub fn run<R: Read, W: Write, A: Accounts>(
     writer: &mut Output<W>,
     gate: &mut Gate<A, Files>,
 ) -> Result<Served, ServeError>
-    // At Ok exactly the replies to the lines that the reads gave were written, of any reader and
-    // any writer, and the gate is in the state after them.
+    // At `Ok` exactly the replies of the gate and its tree to the lines that the reads gave were
+    // written, and the gate is in the state after them.
     ensures serves { IfOk result (Serves (Some LIMIT) guarded_law
         (gate_snapshot A.accepts state_of_files failures_of_files W.contents gate.old writer.old)
         (gate_snapshot A.accepts state_of_files failures_of_files W.contents gate.new writer.new)
@@ -82,9 +85,8 @@ pub fn run<R: Read, W: Write, A: Accounts>(
     ensures read_back { OnOk result (AreReadBack (Some LIMIT) guarded_law
         (asked_gate A.accepts state_of_files gate.old)
         (input_state_of R.remaining reader.old) (input_state_of R.remaining reader.new)) }
-    // Whatever was read: where a client reads in what was written a reply that reports no failure,
-    // among those to a command that needs a login, the accounts have accepted a name and its
-    // password before it.
+    // At `Ok`, where the gate was before its first event, a client reads a reply without failure to
+    // a command that needs a login only after the accounts have accepted a name and its password.
     ensures members { IsClosed (gated A.accepts state_of_files gate.old)
         → OnOk result ((read written : Bytes)
         × HasRead (input_state_of R.remaining reader.old) (input_state_of R.remaining reader.new)
@@ -92,9 +94,9 @@ pub fn run<R: Read, W: Write, A: Accounts>(
         × HasWritten (output_state_of W.contents writer.old) (output_state_of W.contents writer.new)
         written
         × MembersAlone (Some LIMIT) (A.accepts gate.old.accounts.accounts) read written) }
-    // At Ok the buffer has held at most the limit and one piece.
+    // At `Ok` the buffer has held at most the limit and one piece: 8,192 bytes.
     ensures bound { IfOk result (λ served. served.held ≤ LIMIT + 4096) }
-    // What is so at each error.
+    // At an error the call leaves what `serve_with_limit` leaves, for the caller's gate.
     ensures err { IfErr result (ServeEnded (Some LIMIT) guarded_law
         (gate_snapshot A.accepts state_of_files failures_of_files W.contents gate.old writer.old)
         (gate_snapshot A.accepts state_of_files failures_of_files W.contents gate.new writer.new)

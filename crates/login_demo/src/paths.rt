@@ -41,6 +41,7 @@ pub fn walk<'a>(
     directory: &[&'a str],
     path: &'a str,
 ) -> Result<Vec<&'a str>, AllocError>
+    // At `Ok` the names are those to which the path leads from this directory.
     ensures { IfOk result (λ names. map (λ name. name.now) names.items
         ≡ walked (map (λ name. name.now) directory.now) path.now) }
 {
@@ -53,6 +54,7 @@ pub fn walk<'a>(
 
 /// The path from the root with these names.
 pub fn path_text(alloc: Global, names: &[&str]) -> Result<String, AllocError>
+    // At `Ok` the text is the path from the root with these names.
     ensures { IfOk result (λ text. string_bytes text
         ≡ path_text (map (λ name. name.now) names.now)) }
 {

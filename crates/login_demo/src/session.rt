@@ -1,4 +1,4 @@
-//! A session: where a client is, and what it is answered.
+//! A session: where a client is, and the replies to it.
 ghost use Rattle.std.specs.Prelude.{◌≡◌, option_map, string_bytes, unwrap_or, codes, IfOk, IfErr, OnOk};
 ghost use Rattle.unftp_control_message.specs.CommandMeaning.{command_of};
 ghost use Rattle.unftp_control_message.specs.ErrorMeaning.{fault_of};
@@ -27,6 +27,7 @@ pub struct Session {
 impl Session {
     /// A session at its beginning, at the root.
     pub fn new() -> Session
+        // It is the session at the root, to which no QUIT came.
         ensures { result ≡ new_session }
     {
         Session {
@@ -37,9 +38,12 @@ impl Session {
 
     /// Answers a command. It fails only when out of memory.
     pub fn answer(&mut self, alloc: Global, command: Command) -> Result<Reply, ControlChanError>
+        // At `Ok` the reply is the definition's to this command in the session's directory.
         ensures says { IfOk result (λ reply.
             reply_of reply ≡ command_reply self.old.directory (command_of command)) }
+        // At `Ok` the session is the definition's after this command.
         ensures next { OnOk result (self.new ≡ session_after self.old (command_of command)) }
+        // The only error is out of memory.
         ensures err { IfErr result (λ error. fault_of error ≡ out_of_memory) }
     {
         match command {

@@ -29,7 +29,9 @@ const COMMANDS: &[&str] = &[
 
 /// The reply to a command that needs no working directory. It fails only when out of memory.
 pub fn standing_reply(alloc: Global, command: Command) -> Result<Reply, ControlChanError>
+    // At `Ok` the reply is the definition's to this command.
     ensures ok { IfOk result (λ reply. reply_of reply ≡ standing_reply (command_of command)) }
+    // The only error is out of memory.
     ensures err { IfErr result (λ error. fault_of error ≡ out_of_memory) }
 {
     match command {
@@ -101,7 +103,9 @@ fn fixed_line(command: &Command) -> (ReplyCode, &'static str)
 /// The reply to a line that is no command: why the parser refused it, or that it was too long (RFC
 /// 959, section 5.4). It fails only when out of memory.
 pub fn refusal_reply(alloc: Global, error: ControlChanError) -> Result<Reply, ControlChanError>
+    // At `Ok` the reply is the definition's to this refused line.
     ensures ok { IfOk result (λ reply. reply_of reply ≡ refusal_reply (fault_of error)) }
+    // The only error is out of memory.
     ensures err { IfErr result (λ error. fault_of error ≡ out_of_memory) }
 {
     let (code, text) = match error.source() {
@@ -127,7 +131,7 @@ fn refusal_code(kind: &ParseErrorKind) -> ReplyCode
     }
 }
 
-/// What is said of an error that has no line.
+/// The text for an error that has no line.
 fn unread_text(kind: &ControlChanErrorKind) -> &'static str
     ensures { result.now ≡ unread_text (kind_meant kind.now) }
 {

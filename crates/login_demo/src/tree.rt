@@ -36,6 +36,7 @@ pub enum File {
 impl File {
     /// Its size in bytes.
     pub fn size(self) -> u64
+        // It is the definition's size of the file.
         ensures { result ≡ file_size self }
     {
         match self {
@@ -46,6 +47,7 @@ impl File {
 
     /// When it was last modified.
     pub fn modified(self) -> Timestamp
+        // It is an instant within the definition's second of UTC for the file.
         ensures { IsTimeText result.nanosecond (Some (file_time self)) }
     {
         match self {
@@ -77,6 +79,7 @@ const ENTRIES: &[Entry] = &[
 impl Entry {
     /// Its names from the root.
     pub fn names(self) -> &'static [&'static str]
+        // The names are the definition's for the entry.
         ensures { map (λ name. name.now) result.now ≡ entry_names self }
     {
         match self {
@@ -98,6 +101,7 @@ impl Entry {
 
     /// The entry with these names from the root, if there is one.
     pub fn at(names: &[&str]) -> Option<Entry>
+        // It is the definition's entry with these names, or `None` where there is none.
         ensures { result ≡ entry_at (map (λ name. name.now) names.now) }
     {
         ENTRIES.iter().copied().find(|entry| entry.has_names(names))
