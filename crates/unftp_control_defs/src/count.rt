@@ -30,6 +30,7 @@ impl Model for Count {
 impl Count {
     /// Counts from 0.
     pub fn new() -> Count
+        // The count is 0.
         ensures { result ≡ 0 }
     {
         Count {
@@ -40,6 +41,7 @@ impl Count {
     /// A count of this number.
     #[inline(always)]
     pub fn same(&self) -> Count
+        // The new count is equal to this one.
         ensures { result ≡ self.now }
     {
         Count {
@@ -50,6 +52,7 @@ impl Count {
     /// One more.
     #[inline(always)]
     pub fn raise(&mut self)
+        // The count is one more than before.
         ensures { self.new ≡ self.old + 1 }
     {
         self.raise_by(1);
@@ -58,6 +61,7 @@ impl Count {
     /// So many more.
     #[inline(always)]
     pub fn raise_by(&mut self, amount: usize)
+        // The count is `amount` more than before.
         ensures { self.new ≡ self.old + amount }
     {
         self.numbers = self.numbers.with(0, amount, 0);
@@ -66,6 +70,7 @@ impl Count {
     /// The greater of the number and `amount`.
     #[inline(always)]
     pub fn raise_to(&mut self, amount: usize)
+        // The count is the greater of what it was and `amount`.
         ensures { self.new ≡ max self.old amount }
     {
         self.numbers = self.numbers.with(0, 0, amount);
@@ -74,6 +79,7 @@ impl Count {
     /// From 0 again.
     #[inline(always)]
     pub fn reset(&mut self)
+        // The count is 0.
         ensures { self.new ≡ 0 }
     {
         self.numbers = Trace::new();

@@ -23,9 +23,13 @@ pub struct Input<R> {
 impl<R: Read> Input<R> {
     /// This reader, which was not read so far.
     pub fn new(reader: R) -> Input<R>
+        // It reads from this reader.
         ensures reader { result.reader ≡ reader }
+        // No read has given a byte so far.
         ensures given { result.given ≡ [] }
+        // No read is recorded so far.
         ensures reads { result.reads ≡ [] }
+        // No read has failed so far.
         ensures failures { result.failures ≡ 0 }
     {
         Input {
@@ -38,6 +42,7 @@ impl<R: Read> Input<R> {
 
     /// The reader, as the last call left it. What is read of it then is in no record.
     pub fn into_inner(self) -> R
+        // Exactly the reader that the input holds.
         ensures { result ≡ self.reader }
     {
         let Input {
@@ -51,7 +56,10 @@ impl<R: Read> Input<R> {
 
     /// Reads once, as `Read::read` does. Each error counts, `Interrupted` too.
     pub fn read(&mut self, buf: &mut [u8]) -> io::Result<usize>
+        // At `Ok` the number of bytes read is at most the buffer's length.
         ensures bound { ReadsAtMost result buf.new }
+        // The record grows by one read: at `Ok(n)` of the buffer's first `n` bytes, none only at the
+        // reader's end or where the buffer is empty; at an error by a failure and no byte.
         ensures reads { OneRead result buf.new
             (input_state_of R.remaining self.old) (input_state_of R.remaining self.new) }
     {
@@ -69,6 +77,8 @@ impl<R: Read> Input<R> {
     /// Reads once into `room`, and returns the piece that came, or `None` at the reader's end. At an
     /// error nothing came. Each error counts, `Interrupted` too.
     pub fn read_piece<'a>(&mut self, room: &'a mut [u8; PIECE]) -> io::Result<Option<&'a [u8]>>
+        // It makes one read. It returns the piece that came, of 1 to 4,096 bytes, or `None` at the
+        // reader's end. At an error no byte came, and one more failure is recorded.
         ensures { MatchResult result (λ next. MatchOption next
             (ReadsEnd (input_state_of R.remaining self.old) (input_state_of R.remaining self.new))
             (λ piece. ReadsPiece (input_state_of R.remaining self.old)

@@ -63,15 +63,25 @@ pub enum StruParam {
 
 /// `==` of these parameters is equality, and a clone is equal.
 pub fn same_parameters()
+    // `==` of two AUTH parameters is true exactly where they are equal.
     ensures auth { (a b : RustAuthParam) → IsTrue (⟦<AuthParam as PartialEq>⟧.eq a b) ↔ (a ≡ b) }
+    // A clone of an AUTH parameter is equal to it.
     ensures auth_clone { (a b : RustAuthParam) → ⟦<AuthParam as Clone>⟧.is_clone a b → b ≡ a }
+    // `==` of two MODE parameters is true exactly where they are equal.
     ensures mode { (a b : RustModeParam) → IsTrue (⟦<ModeParam as PartialEq>⟧.eq a b) ↔ (a ≡ b) }
+    // A clone of a MODE parameter is equal to it.
     ensures mode_clone { (a b : RustModeParam) → ⟦<ModeParam as Clone>⟧.is_clone a b → b ≡ a }
+    // `==` of two OPTS options is true exactly where they are equal.
     ensures opt { (a b : RustOpt) → IsTrue (⟦<Opt as PartialEq>⟧.eq a b) ↔ (a ≡ b) }
+    // A clone of an OPTS option is equal to it.
     ensures opt_clone { (a b : RustOpt) → ⟦<Opt as Clone>⟧.is_clone a b → b ≡ a }
+    // `==` of two PROT parameters is true exactly where they are equal.
     ensures prot { (a b : RustProtParam) → IsTrue (⟦<ProtParam as PartialEq>⟧.eq a b) ↔ (a ≡ b) }
+    // A clone of a PROT parameter is equal to it.
     ensures prot_clone { (a b : RustProtParam) → ⟦<ProtParam as Clone>⟧.is_clone a b → b ≡ a }
+    // `==` of two STRU parameters is true exactly where they are equal.
     ensures stru { (a b : RustStruParam) → IsTrue (⟦<StruParam as PartialEq>⟧.eq a b) ↔ (a ≡ b) }
+    // A clone of a STRU parameter is equal to it.
     ensures stru_clone { (a b : RustStruParam) → ⟦<StruParam as Clone>⟧.is_clone a b → b ≡ a }
 {}
 
@@ -95,6 +105,7 @@ pub enum Choice {
 impl Choice {
     /// Its word on a line, in upper case.
     pub fn word(&self) -> &'static [u8]
+        // The word that the definition's table has for this choice.
         ensures { result.now ≡ choice_word self.now }
     {
         match self {

@@ -126,8 +126,11 @@ impl Verb {
     // a caller wants one of the three, and then no tuple is made
     #[inline(always)]
     fn row(self) -> (u32, &'static str, Kind)
+        // The number of its row in the definition's table.
         ensures number { result.0 ≡ number self }
+        // The word of its row in the definition's table.
         ensures word { result.1.now ≡ word self }
+        // The kind of its row in the definition's table.
         ensures kind { result.2 ≡ kind self }
     {
         match self {
@@ -180,6 +183,7 @@ impl Verb {
 
     /// Its number for C.
     pub fn number(self) -> u32
+        // The verb's number in the definition's table.
         ensures { result ≡ number self }
     {
         self.row().0
@@ -187,6 +191,7 @@ impl Verb {
 
     /// Its canonical word; of SITE MD5 the subcommand. Empty for other subcommands and other verbs.
     pub fn word(self) -> &'static str
+        // The verb's word in the definition's table.
         ensures { result.now ≡ word self }
     {
         self.row().1
@@ -194,6 +199,7 @@ impl Verb {
 
     /// What it takes.
     pub fn kind(self) -> Kind
+        // The kind that the definition's table has for the verb.
         ensures { result ≡ kind self }
     {
         self.row().2
@@ -315,6 +321,7 @@ fn padded_verb(padded: [u8; 4]) -> Option<Verb>
 #[inline(always)]
 #[tactic(auto, using(crate::proofs::WordLemmas::words))]
 pub fn verb_named(word: &[u8]) -> Option<Verb>
+    // The verb whose word in the definition's table this is, ignoring ASCII case; else `None`.
     ensures { result ≡ row_of (upper word.now) verbs }
 {
     match word {
@@ -328,6 +335,7 @@ pub fn verb_named(word: &[u8]) -> Option<Verb>
 /// takes no memory.
 #[tactic(auto, using(crate::proofs::WordLemmas::words))]
 pub fn is_verb(word: &[u8]) -> bool
+    // True exactly for the words of the definition's table, in upper case.
     ensures { IsTrue result ↔ IsSome (row_of word.now verbs) }
 {
     match to_four_bytes(word) {

@@ -25,6 +25,7 @@ impl Model for Trace {
 impl Trace {
     /// No numbers so far.
     pub fn new() -> Trace
+        // The list is empty.
         ensures { result ≡ [] }
     {
         Trace { seal: () }
@@ -51,6 +52,7 @@ impl Trace {
     /// This number after the others.
     #[inline(always)]
     pub fn push(&mut self, number: usize)
+        // The list is what it was, and then this number.
         ensures { self.new ≡ self.old ++ number ∷ [] }
     {
         *self = self.with(number, 1, 0);
@@ -59,6 +61,7 @@ impl Trace {
     /// These bytes after the others.
     #[inline(always)]
     pub fn extend(&mut self, bytes: &[u8])
+        // The list is what it was, and then these bytes in order.
         ensures { self.new ≡ self.old ++ bytes.now }
     {
         self.extend_by(bytes, bytes.len());
@@ -67,6 +70,7 @@ impl Trace {
     /// The first `n` of these bytes after the others.
     #[inline(always)]
     pub fn extend_by(&mut self, bytes: &[u8], n: usize)
+        // The list is what it was, and then the first `n` bytes, or all where there are fewer.
         ensures { self.new ≡ self.old ++ take n bytes.now }
     {
         *self = self.with_front(bytes, n);
@@ -75,6 +79,7 @@ impl Trace {
     /// No numbers again.
     #[inline(always)]
     pub fn reset(&mut self)
+        // The list is empty.
         ensures { self.new ≡ [] }
     {
         *self = Trace::new();
