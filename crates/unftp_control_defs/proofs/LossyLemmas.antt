@@ -45,8 +45,8 @@ whole_text : (text : Bytes) → utf8_valid_len text ≡ length text → IsUtf8 t
 whole_text text e = subst IsUtf8 (take_all (utf8_valid_len text) text (omega arith))
     (valid_front text)
 
--- What is so of a text in UTF-8, and of one whose first ill-formed part is replaced where it is so of
--- what follows, is so of every text whose ill-formed parts are.
+-- What is so of a text in UTF-8, and of one whose first ill-formed part is replaced where it is so
+-- of what follows, is so of every text whose ill-formed parts are.
 module _ (P : Bytes → Bytes → Type 0) (whole : (text : Bytes) → IsUtf8 text → P text text)
     (faulty : (text more : Bytes)
     → utf8_valid_len text + length (after_first_chunk text) < length text

@@ -30,8 +30,8 @@ pub data AreLaterLines (digits : Bytes) : Bytes → List Bytes → Type 0 where
   goes_on : {line bytes : Bytes} {lines : List Bytes} → LacksCrlf line → GoesOn digits line
       → AreLaterLines digits bytes lines → AreLaterLines digits (with_crlf line ++ bytes) (line ∷ lines)
 
--- The bytes are one reply of this code, and are read as these lines: just the digits; or the digits,
--- a space and a text; or the digits, a dash and a text, and later lines.
+-- The bytes are one reply of this code, and are read as these lines: just the digits; or the
+-- digits, a space and a text; or the digits, a dash and a text, and later lines.
 pub data IsReply : Bytes → ℕ → List Bytes → Type 0 where
   code_only : {digits : Bytes} {code : ℕ} → SpellsCode digits code
       → IsReply (with_crlf digits) code ([] ∷ [])

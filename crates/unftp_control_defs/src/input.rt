@@ -58,8 +58,8 @@ impl<R: Read> Input<R> {
     pub fn read(&mut self, buf: &mut [u8]) -> io::Result<usize>
         // At `Ok` the number of bytes read is at most the buffer's length.
         ensures bound { ReadsAtMost result buf.new }
-        // The record grows by one read: at `Ok(n)` of the buffer's first `n` bytes, none only at the
-        // reader's end or where the buffer is empty; at an error by a failure and no byte.
+        // The record grows by one read: at `Ok(n)` by the buffer's first `n` bytes, none only at
+        // the reader's end or where the buffer is empty; at an error by a failure and no byte.
         ensures reads { OneRead result buf.new
             (input_state_of R.remaining self.old) (input_state_of R.remaining self.new) }
     {
@@ -74,8 +74,8 @@ impl<R: Read> Input<R> {
         result
     }
 
-    /// Reads once into `room`, and returns the piece that came, or `None` at the reader's end. At an
-    /// error nothing came. Each error counts, `Interrupted` too.
+    /// Reads once into `room`, and returns the piece that came, or `None` at the reader's end. At
+    /// an error nothing came. Each error counts, `Interrupted` too.
     pub fn read_piece<'a>(&mut self, room: &'a mut [u8; PIECE]) -> io::Result<Option<&'a [u8]>>
         // It makes one read. It returns the piece that came, of 1 to 4,096 bytes, or `None` at the
         // reader's end. At an error no byte came, and one more failure is recorded.
