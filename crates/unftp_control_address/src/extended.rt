@@ -28,9 +28,11 @@ pub enum AddressError {
 /// the delimiter, and nothing else. The delimiter is a visible character of ASCII that no address
 /// has, and no closing bracket.
 ///
-/// It is refused with `UnknownProtocol` where the protocol is another number of 16 bits, and with
-/// `Malformed` where it is anything else.
+/// A value is refused with `UnknownProtocol` where its protocol is another number of 16 bits, and
+/// else with `Malformed`.
 pub fn read_extended(value: &[u8]) -> Result<SocketAddr, AddressError>
+    // At `Ok` the value spells the address. `UnknownProtocol` is for three fields whose first is a
+    // number below 65536 but neither 1 nor 2, and `Malformed` for any other value.
     ensures { MatchResult result (IsExtended value.now) (IsRefused value.now) }
 {
     let Some((protocol, host, port)) = fields(value) else {
@@ -103,11 +105,14 @@ fn family(ip: IpAddr) -> u8
 
 /// Appends an address as a value of EPRT has it, such as `|1|132.235.1.2|6275|` (RFC 2428, section
 /// 2), without the flow information and the scope of an IPv6 address. It takes no memory but what
-/// `buf` needs, and fails only where `buf` has no room for the text and can't grow. `buf` is then as
-/// it was.
+/// `buf` needs, and fails only where `buf` has no room for the text and can't grow. `buf` is then
+/// as it was.
 pub fn write_extended(address: SocketAddr, buf: &mut Vec<u8>) -> Result<(), AllocError>
+    // At `Ok` exactly the text of the address for EPRT is appended.
     ensures ok { OnOk result (buf.new.items ≡ buf.old.items ++ extended_text address) }
+    // At an error the buffer holds what it held.
     ensures err { OnErr result (buf.new.items ≡ buf.old.items) }
+    // It is out of memory only where the buffer lacks room for that text.
     ensures memory { OnErr result (LacksRoom buf.old (extended_text address)) }
 {
     let length = buf.len();
@@ -152,6 +157,8 @@ fn append_last(port: u16, buf: &mut Vec<u8>) -> Result<(), AllocError>
 /// the text's first opening bracket come a delimiter three times, one to five digits that spell a
 /// port, the delimiter and a closing bracket, such as `(|||6446|)`.
 pub fn find_extended_port(text: &[u8]) -> Option<u16>
+    // Exactly the port that the definition finds in the text of a 229, or `None` where it finds
+    // none.
     ensures { result ≡ extended_port text.now }
 {
     let (_, inner) = cut(text, b'(')?;
@@ -186,8 +193,11 @@ fn ended_port(text: &[u8], delimiter: u8) -> Option<u16>
 /// 3). It takes no memory but what `buf` needs, and fails only where `buf` has no room for the text
 /// and can't grow. `buf` is then as it was.
 pub fn write_extended_port(port: u16, buf: &mut Vec<u8>) -> Result<(), AllocError>
+    // At `Ok` exactly the text of the port for a 229 is appended.
     ensures ok { OnOk result (buf.new.items ≡ buf.old.items ++ extended_port_text port) }
+    // At an error the buffer holds what it held.
     ensures err { OnErr result (buf.new.items ≡ buf.old.items) }
+    // It is out of memory only where the buffer lacks room for that text.
     ensures memory { OnErr result (LacksRoom buf.old (extended_port_text port)) }
 {
     let length = buf.len();

@@ -13,6 +13,7 @@ use std::net::{Ipv4Addr, SocketAddrV4};
 /// where it spells none, which a server answers by 501: six numbers with a comma between each two,
 /// each of one to three digits and below 256, and nothing else. Leading zeros are decimal.
 pub fn read_host_port(value: &[u8]) -> Option<SocketAddrV4>
+    // Exactly the address that the value spells by the definition, or `None` where it spells none.
     ensures { option_map host_port_of result ≡ host_port value.now }
 {
     let [a, b, c, d, high, low] = octets::<6>(value, b',')?;
@@ -24,6 +25,7 @@ pub fn read_host_port(value: &[u8]) -> Option<SocketAddrV4>
 /// `None` where there is none: of the text's words of digits and commas the first that
 /// `read_host_port` reads (RFC 1123, section 4.1.2.6).
 pub fn find_host_port(text: &[u8]) -> Option<SocketAddrV4>
+    // The first address in the text by the definition, or `None` where there is none.
     ensures { option_map host_port_of result ≡ first_host_port text.now }
 {
     let mut rest = text;
@@ -57,13 +59,16 @@ fn is_outside(byte: u8) -> bool
     !(byte.is_ascii_digit() || byte == b',')
 }
 
-/// Appends an address as a value of PORT has it, and the brackets of a reply 227: `127,0,0,1,195,80`
-/// (RFC 959, section 4.1.2). It takes no memory but what `buf` needs, and fails only where `buf` has
-/// no room for the text and can't grow. `buf` is then as it was.
+/// Appends an address as a value of PORT has it, and the brackets of a reply 227:
+/// `127,0,0,1,195,80` (RFC 959, section 4.1.2). It takes no memory but what `buf` needs, and fails
+/// only where `buf` has no room for the text and can't grow. `buf` is then as it was.
 pub fn write_host_port(address: SocketAddrV4, buf: &mut Vec<u8>) -> Result<(), AllocError>
+    // At `Ok` exactly the text of the address for PORT is appended.
     ensures ok { OnOk result
         (buf.new.items ≡ buf.old.items ++ host_port_text (host_port_of address)) }
+    // At an error the buffer holds what it held.
     ensures err { OnErr result (buf.new.items ≡ buf.old.items) }
+    // It is out of memory only where the buffer lacks room for that text.
     ensures memory { OnErr result (LacksRoom buf.old (host_port_text (host_port_of address))) }
 {
     let length = buf.len();

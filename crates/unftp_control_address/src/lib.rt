@@ -1,5 +1,5 @@
-//! The addresses of FTP's data connections, as commands and replies spell them. They are read and
-//! written without a look at whose address it is: that is the caller's to decide.
+//! The addresses of FTP's data connections, as commands and replies spell them. Whose address it
+//! is plays no part here: that is the caller's to decide.
 #![tactic(auto)]
 
 pub mod examples;

@@ -1,5 +1,5 @@
-//! Numbers and hosts as text. Each function appends what it says, or perhaps a part of it when out
-//! of memory.
+//! Numbers and hosts as text. Each function appends what its comment names, or perhaps a part of
+//! it when out of memory.
 ghost use Rattle.std.specs.Prelude.{◌≡◌, ◌≤◌, ◌<◌, ◌++◌, ◌+◌, ◌∷◌, codes, decimal, flat_map, length, take, vec_capacity, vec_len, OnErr, OnOk};
 ghost use Rattle.std.specs.Char.{digit_char};
 ghost use Rattle.std.specs.Net.Addr.{ipv6_segments};
