@@ -277,7 +277,7 @@ verbs =
     ∷ []
 
 -- What is said of a command: a verb, a name and a value. The name is that of another subcommand of
--- SITE or of another verb, and else empty. Of LIST it is only the path.
+-- SITE or of another verb, and else empty. The value of LIST is only the path.
 pub record Said : Type 0 where
   pub verb : Verb
   pub name : Bytes

@@ -83,7 +83,7 @@ Fails answer len kind.InvalidCommand = answer ≡ Err InvalidCommand
 Fails answer len kind.OutOfMemory = 0 < len
 Fails answer len _ = ⊥
 
--- So does making a command of parts.
+-- A command of these parts fails so.
 abbrev pub FailsAs : Parts → ParseErrorKind → Type 0
 FailsAs parts error = Fails (outcome_of (said_of parts)) (said_len (said_of parts)) error
 
@@ -94,6 +94,7 @@ TakesOptionalText kinds.Listing = ⊤
 TakesOptionalText kinds.Subcommand = ⊤
 TakesOptionalText _ = ⊥
 
+-- The outcome is this command; or it fails so.
 abbrev pub MakesCommand : Outcome → ℕ → Result Command ParseErrorKind → Type 0
 MakesCommand answer len (Ok command) = answer ≡ Ok (command_of command)
 MakesCommand answer len (Err error) = Fails answer len error

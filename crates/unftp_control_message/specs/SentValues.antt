@@ -11,10 +11,12 @@ unescaped (a ∷ []) = a ∷ []
 unescaped (a ∷ b ∷ bytes) = if (a == CR) && (b == NUL) then CR ∷ unescaped bytes
     else a ∷ unescaped (b ∷ bytes)
 
+-- the bytes that are sent for a value
 abbrev pub sent_bytes : Sent → Bytes
 sent_bytes (sent.Plain bytes) = bytes.now
 sent_bytes (sent.Escaped bytes) = bytes.now
 
+-- the value: the bytes as they are, or where a CR was sent as CR NUL, without that NUL
 abbrev pub sent_value : Sent → Bytes
 sent_value (sent.Plain bytes) = bytes.now
 sent_value (sent.Escaped bytes) = unescaped bytes.now

@@ -17,7 +17,9 @@ use std::alloc::{AllocError, Global};
 /// A text in memory of its own; an empty one takes none.
 #[inline]
 pub fn owned(alloc: Global, text: &str) -> Result<String, AllocError>
+    // At `Ok` the new text has the same bytes.
     ensures ok { IfOk result (λ owned. string_bytes owned ≡ text.now) }
+    // It is out of memory only for a text that is not empty.
     ensures memory { OnErr result (0 < length text.now) }
 {
     if text.is_empty() {
@@ -39,9 +41,14 @@ fn upper_cased(alloc: Global, name: &str) -> Result<String, AllocError>
 /// The bytes of the value.
 #[tactic(auto, using(crate::proofs::PartsLemmas::taking))]
 pub fn bytes(alloc: Global, parts: &Parts<'_>) -> Result<Bytes, ParseErrorKind>
+    // The verb takes any bytes, or none.
     requires { kind parts.now.verb ≡ kinds.Raw }
+    // At `Ok` a command of such a verb holds these bytes: those of the value, or none without a
+    // value.
     ensures ok { IfOk result (λ bytes. (make : Sequence → FtpCommand) (name : Sequence)
         → by_raw make name (said_value parts.now.value) ≡ Ok (make bytes)) }
+    // `InvalidCommand` comes only where the verb takes no such value, `OutOfMemory` only where the
+    // parts hold bytes, and no other error comes.
     ensures err { IfErr result (λ kind. FailsAs parts.now kind) }
 {
     match parts.value {
@@ -54,8 +61,12 @@ pub fn bytes(alloc: Global, parts: &Parts<'_>) -> Result<Bytes, ParseErrorKind>
 /// The bytes of the value, or none.
 #[tactic(auto, using(crate::proofs::PartsLemmas::taking))]
 pub fn optional_bytes(alloc: Global, parts: &Parts<'_>) -> Result<Option<Bytes>, ParseErrorKind>
+    // The verb takes any bytes, or none.
     requires { kind parts.now.verb ≡ kinds.Raw }
+    // At `Ok` these are the bytes of the value, or `None` where there is no value.
     ensures ok { IfOk result (λ bytes. said_value parts.now.value ≡ maybe_raw bytes) }
+    // `InvalidCommand` comes only where the verb takes no such value, `OutOfMemory` only where the
+    // parts hold bytes, and no other error comes.
     ensures err { IfErr result (λ kind. FailsAs parts.now kind) }
 {
     match parts.value {
@@ -68,8 +79,12 @@ pub fn optional_bytes(alloc: Global, parts: &Parts<'_>) -> Result<Option<Bytes>,
 /// The text of the value.
 #[tactic(auto, using(crate::proofs::PartsLemmas::taking))]
 pub fn text(alloc: Global, parts: &Parts<'_>) -> Result<String, ParseErrorKind>
+    // The verb takes a text that is not empty.
     requires { kind parts.now.verb ≡ kinds.Text }
+    // At `Ok` the value is a text, and this is that text.
     ensures ok { IfOk result (λ text. said_value parts.now.value ≡ Text (string_bytes text)) }
+    // `InvalidCommand` comes only where the verb takes no such value, `OutOfMemory` only where the
+    // parts hold bytes, and no other error comes.
     ensures err { IfErr result (λ kind. FailsAs parts.now kind) }
 {
     match parts.value {
@@ -82,9 +97,13 @@ pub fn text(alloc: Global, parts: &Parts<'_>) -> Result<String, ParseErrorKind>
 /// The text of the value, or none.
 #[tactic(auto, using(crate::proofs::PartsLemmas::taking))]
 pub fn optional_text(alloc: Global, parts: &Parts<'_>) -> Result<Option<String>, ParseErrorKind>
+    // The verb takes a text or none.
     requires { TakesOptionalText (kind parts.now.verb) }
+    // At `Ok` this is the text of the value, or `None` where there is no value.
     ensures ok { IfOk result
         (λ text. said_value parts.now.value ≡ maybe_text (option_map string_bytes text)) }
+    // `InvalidCommand` comes only where the verb takes no such value, `OutOfMemory` only where the
+    // parts hold bytes, and no other error comes.
     ensures err { IfErr result (λ kind. FailsAs parts.now kind) }
 {
     match parts.value {
@@ -114,7 +133,10 @@ fn arguments(alloc: Global, parts: &Parts<'_>) -> Result<String, ParseErrorKind>
 
 /// SITE with another subcommand.
 pub fn site(alloc: Global, parts: &Parts<'_>) -> Result<Command, ParseErrorKind>
+    // The verb is that of another subcommand of SITE.
     requires { parts.now.verb ≡ verbs.Site }
+    // At `Ok` the parts say this command. Else the verb takes no such value, at `InvalidCommand`,
+    // or the parts hold bytes, at `OutOfMemory`.
     ensures { MakesCommand (outcome_of (said_of parts.now)) (said_len (said_of parts.now)) result }
 {
     let arguments = arguments(alloc, parts)?;
@@ -126,7 +148,10 @@ pub fn site(alloc: Global, parts: &Parts<'_>) -> Result<Command, ParseErrorKind>
 
 /// A verb with no rule of its own.
 pub fn other(alloc: Global, parts: &Parts<'_>) -> Result<Command, ParseErrorKind>
+    // The verb has no rule of its own.
     requires { parts.now.verb ≡ verbs.Other }
+    // At `Ok` the parts say this command. Else the verb takes no such value, at `InvalidCommand`,
+    // or the parts hold bytes, at `OutOfMemory`.
     ensures { MakesCommand (outcome_of (said_of parts.now)) (said_len (said_of parts.now)) result }
 {
     let arguments = arguments(alloc, parts)?;

@@ -280,7 +280,9 @@ impl Command {
     /// A command that means the same, or `AllocError` when out of memory, which leaves this one as
     /// it is. No memory is taken for one without texts or with empty ones, but for a password.
     pub fn clone(&self, alloc: Global) -> Result<Command, AllocError>
+        // At `Ok` the new command means the same.
         ensures ok { IfOk result (λ command. command_of command ≡ command_of self.now) }
+        // It is out of memory only where the command holds bytes, or is a password.
         ensures memory { OnErr result (0 < held_len (command_of self.now)) }
     {
         // what holds `Bytes` shares them, and parts lack options and the case of a name

@@ -49,6 +49,7 @@ impl<'a> Value<'a> {
     /// Whether it is where it was read, as it is.
     #[inline(always)]
     pub fn is_in_place(self) -> bool
+        // True for every value but `Lossy`, and `Raw` of `Sent::Escaped`.
         ensures { IsTrue result ↔ IsInPlace self.entry }
     {
         !matches!(self, Value::Raw(Sent::Escaped(_)) | Value::Lossy(_))
@@ -57,7 +58,9 @@ impl<'a> Value<'a> {
     /// Its bytes, or none where it has no value; `digits` has room for those of a number.
     #[inline(always)]
     pub fn bytes(self, digits: &'a mut Buffer) -> Option<&'a [u8]>
+        // The value is neither `Lossy` nor `Raw` of `Sent::Escaped`.
         requires { IsInPlace self }
+        // The bytes of the value, a number in decimal, or `None` exactly where there is no value.
         ensures { option_map (λ bytes. bytes.now) result ≡ value_bytes (said_value self.entry) }
     {
         if let Value::Number(number) = self {
@@ -77,8 +80,11 @@ impl<'a> Parts<'a> {
     /// (RFC 959, section 5.3); `digits` has room for those of a number.
     #[inline(always)]
     pub fn word_and_value(self, digits: &'a mut Buffer) -> (&'a str, Option<&'a [u8]>)
+        // The value is neither `Lossy` nor `Raw` of `Sent::Escaped`.
         requires { IsInPlace self.value }
+        // The verb's word, which for SITE MD5 is MD5, or the name where the verb has no word.
         ensures word { result.0.now ≡ (word_and_value (spelled self.entry)).0 }
+        // The bytes of the value, a number in decimal, or `None` exactly where there is no value.
         ensures value { option_map (λ bytes. bytes.now) result.1
             ≡ (word_and_value (spelled self.entry)).1 }
     {
@@ -165,6 +171,8 @@ impl Command {
     /// `InvalidCommand` where the verb takes no such value, and `OutOfMemory` where there is none
     /// for its texts.
     pub fn from_parts(alloc: Global, parts: &Parts<'_>) -> Result<Command, ParseErrorKind>
+        // At `Ok` the parts say this command. Else the verb takes no such value, at
+        // `InvalidCommand`, or the parts hold bytes, at `OutOfMemory`.
         ensures { MakesCommand (outcome_of (said_of parts.now))
             (said_len (said_of parts.now)) result }
     {
@@ -174,21 +182,27 @@ impl Command {
     /// The word that it has on its line, which is its verb or its subcommand of SITE, and its value
     /// before any CR is written as CR NUL (RFC 854); `digits` has room for those of a number.
     pub fn name_and_value<'a>(&'a self, digits: &'a mut Buffer) -> (&'a str, Option<&'a [u8]>)
+        // The verb's word, which for SITE MD5 is MD5, or the name where the verb has no word.
         ensures name { result.0.now ≡ (name_and_value (command_of self.now)).0 }
+        // The bytes of the command's value, a number in decimal, or `None` exactly where it has
+        // none.
         ensures value { option_map (λ bytes. bytes.now) result.1
             ≡ (name_and_value (command_of self.now)).1 }
+        // The texts of the command are UTF-8, and its offset has 64 bits.
         ensures typed { HasTypedFields (command_of self.now) }
     {
         self.parts().word_and_value(digits)
     }
 
     /// What the command says, in its own memory (RFC 959, section 5.3). The value is none where the
-    /// command has none, and for an empty name, password, account or argument; of LIST it is the
-    /// path alone.
+    /// command has none, and for an empty name, password, account or argument; of LIST it is only
+    /// the path.
     pub fn parts(&self) -> Parts<'_>
+        // The parts say what the command says: its verb, its name and its value, of LIST the path.
         ensures says { spelled result ≡ said (command_of self.now) }
+        // The value is neither `Lossy` nor `Raw` of `Sent::Escaped`.
         ensures in_place { IsInPlace result.value }
-        // Its texts are UTF-8, and its offset has 64 bits.
+        // The texts of the command are UTF-8, and its offset has 64 bits.
         ensures typed { HasTypedFields (command_of self.now) }
     {
         Parts {

@@ -13,8 +13,8 @@ use std::marker::Model;
 ///
 /// Its bytes and their number appear in no text, under any flag of the formatter: the text is the
 /// same for all passwords. The clauses are `output` and `styled_output` of Display, and `writes`
-/// and `styled` of Debug's `fmt`. They say it where `fmt` returns `Ok`, and not within the indented
-/// parts of another value's `{:#?}`.
+/// and `styled` of Debug's `fmt`. They hold where `fmt` returns `Ok`, and say nothing of the
+/// indented parts of another value's `{:#?}`.
 ///
 /// It is not wiped when it is dropped, and `==` may take longer for passwords that are alike at
 /// their beginning.
@@ -34,6 +34,7 @@ impl Model for Password {
 impl Password {
     /// Holds these bytes, and takes no memory.
     pub fn new(bytes: Bytes) -> Password
+        // It holds exactly these bytes.
         ensures { result ≡ bytes }
     {
         Password { bytes }
@@ -41,6 +42,7 @@ impl Password {
 
     /// Holds the bytes of the text; `AllocError` when out of memory.
     pub fn from_text(alloc: Global, text: &str) -> Result<Password, AllocError>
+        // At `Ok` it holds exactly the bytes of the text.
         ensures { IfOk result (λ password. password ≡ text.now) }
     {
         Ok(Password::new(Bytes::copy_from_slice(alloc, text.as_bytes())?))
@@ -48,6 +50,7 @@ impl Password {
 
     /// Its bytes.
     pub fn as_ref(&self) -> &[u8]
+        // Exactly the bytes that it holds.
         ensures { result.now ≡ self.now }
     {
         self.bytes.as_slice()
@@ -55,6 +58,7 @@ impl Password {
 
     /// An equal password, or `AllocError` when out of memory, which leaves this one as it is.
     pub fn clone(&self) -> Result<Password, AllocError>
+        // At `Ok` the new password has the same bytes.
         ensures { IfOk result (λ password. password ≡ self.now) }
     {
         Ok(Password {
@@ -112,8 +116,11 @@ impl fmt::Debug for Password {
     ghost debug_output = { λ _. Some (codes "Password { bytes: ******* }") };
 
     fn fmt<W: fmt::Write>(&self, f: &mut fmt::Formatter<W>) -> fmt::Result
+        // At `Ok`, under no flags, it has written this one text, whatever the password.
         ensures writes { DisplaysOnOk W.write_str_gives f.old result
             (Some (codes "Password { bytes: ******* }")) f.new }
+        // At `Ok` it has written the same text under any flags, where it is no indented part of
+        // another value's `{:#?}`.
         ensures styled { DisplaysStyledOnOk W.write_str_gives f.old result
             (Some (codes "Password { bytes: ******* }")) f.new }
     {
@@ -123,5 +130,6 @@ impl fmt::Debug for Password {
 
 /// `==` of passwords is equality of their bytes.
 pub fn same_passwords()
+    // `==` of two passwords is true exactly where their bytes are equal.
     ensures { (a b : List ℕ) → IsTrue (⟦<Password as PartialEq>⟧.eq a b) ↔ (a ≡ b) }
 {}

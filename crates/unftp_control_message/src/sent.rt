@@ -28,6 +28,7 @@ pub enum Sent<'a> {
 impl<'a> Sent<'a> {
     /// The bytes that are sent for it.
     pub fn sent(self) -> &'a [u8]
+        // Exactly the bytes that are sent for the value.
         ensures { result.now ≡ sent_bytes self.entry }
     {
         match self {
@@ -38,6 +39,7 @@ impl<'a> Sent<'a> {
     /// Whether it has no bytes.
     #[inline]
     pub fn is_empty(self) -> bool
+        // True exactly where the value has no bytes.
         ensures { result ≡ (length (sent_value self.entry) == 0) }
     {
         self.sent().is_empty()
@@ -45,6 +47,7 @@ impl<'a> Sent<'a> {
 
     /// How many bytes the value has.
     pub fn value_len(self) -> usize
+        // The number of the value's bytes.
         ensures { result ≡ length (sent_value self.entry) }
     {
         match self {
@@ -56,7 +59,9 @@ impl<'a> Sent<'a> {
     /// Writes the value to the start of an area, and changes no later byte of it. It takes no
     /// memory. The area has to have `value_len` bytes at least.
     pub fn write_to(self, area: &mut [u8])
+        // The area has room for the value.
         requires { length (sent_value self) ≤ length area.old }
+        // The area begins with the value, and its later bytes stay.
         ensures { area.new ≡ sent_value self.entry
             ++ drop (length (sent_value self.entry)) area.old }
     {
@@ -71,7 +76,9 @@ impl<'a> Sent<'a> {
 
     /// Its bytes, in new memory; none take none.
     pub fn to_bytes(self, alloc: Global) -> Result<Bytes, AllocError>
+        // At `Ok` exactly the bytes of the value.
         ensures ok { IfOk result (λ bytes. bytes ≡ sent_value self.entry) }
+        // It is out of memory only where the value has bytes.
         ensures memory { OnErr result (0 < length (sent_value self.entry)) }
     {
         if self.is_empty() {
@@ -88,7 +95,9 @@ impl<'a> Sent<'a> {
     #[inline]
     #[tactic(auto, using(crate::proofs::SentLemmas::texts))]
     pub fn to_text(self, alloc: Global) -> Result<String, AllocError>
+        // At `Ok` the text of the value's bytes, each ill-formed part of UTF-8 replaced by U+FFFD.
         ensures ok { IfOk result (λ text. string_bytes text ≡ utf8_lossy (sent_value self.entry)) }
+        // It is out of memory only where that text is not empty.
         ensures memory { OnErr result (0 < length (utf8_lossy (sent_value self.entry))) }
     {
         if self.is_empty() {
@@ -126,6 +135,7 @@ fn owned_text(alloc: Global, bytes: Vec<u8>) -> Result<String, AllocError>
 /// Whether the bytes begin with CR NUL.
 #[inline]
 pub fn begins_with_cr_nul(bytes: &[u8]) -> bool
+    // True exactly where the first two bytes are CR and NUL.
     ensures { result ≡ begins_with_cr_nul bytes.now }
 {
     match bytes {
@@ -149,7 +159,9 @@ fn begins_with_four_cr_nul(bytes: &[u8]) -> bool
 
 /// How many CR NUL the bytes begin with.
 pub fn cr_nul_count(bytes: &[u8]) -> usize
+    // How many CR NUL the bytes begin with, one after the other.
     ensures count { result ≡ cr_nul_count bytes.now }
+    // They are within the bytes: each CR NUL has two.
     ensures within { 2 * result ≤ length bytes.now }
 {
     let mut count = 0usize;
@@ -195,6 +207,7 @@ fn after_nul(bytes: &[u8]) -> &[u8]
 
 /// The value for which these bytes are sent, in new memory.
 pub fn unescape(alloc: Global, sent: &[u8]) -> Result<Vec<u8>, AllocError>
+    // At `Ok` the bytes without each NUL that comes directly after a CR.
     ensures { IfOk result (λ value. value.items ≡ unescaped sent.now) }
 {
     let mut value = Vec::with_capacity(alloc, sent.len())?;
@@ -219,6 +232,7 @@ pub fn unescape(alloc: Global, sent: &[u8]) -> Result<Vec<u8>, AllocError>
 
 /// How many bytes the value has for which these are sent.
 pub fn unescaped_len(sent: &[u8]) -> usize
+    // The number of the bytes without each NUL that comes directly after a CR.
     ensures { result ≡ length (unescaped sent.now) }
 {
     let mut len = 0usize;
@@ -234,7 +248,10 @@ pub fn unescaped_len(sent: &[u8]) -> usize
 /// Writes the value for which these bytes are sent to the start of an area, and changes no later
 /// byte of it. It takes no memory.
 pub fn unescape_to(sent: &[u8], area: &mut [u8])
+    // The area has room for the value.
     requires { length (unescaped sent.now) ≤ length area.old }
+    // The area begins with the bytes without each NUL directly after a CR, and its later bytes
+    // stay.
     ensures { area.new ≡ unescaped sent.now ++ drop (length (unescaped sent.now)) area.old }
 {
     let mut at = 0usize;

@@ -18,6 +18,7 @@ const PARTS: usize = 16;
 /// The bytes as a text, or none where they are not UTF-8.
 #[inline(always)]
 pub fn text(bytes: &[u8]) -> Option<&str>
+    // `None` exactly where the bytes are not UTF-8; else the text has exactly these bytes.
     ensures { MatchOption result (¬ (IsUtf8 bytes.now))
         (λ text. (text.now ≡ bytes.now) × IsUtf8 bytes.now) }
 {

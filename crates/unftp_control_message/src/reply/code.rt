@@ -107,6 +107,7 @@ impl ReplyCode {
 
     /// Its number.
     pub fn number(&self) -> u32
+        // The number of the code in the definition's table.
         ensures { result ≡ number_of self.now }
     {
         *self as u32
@@ -114,6 +115,7 @@ impl ReplyCode {
 
     /// The code with this number, if there is one.
     pub fn from_number(number: u32) -> Option<ReplyCode>
+        // It is a code exactly where that code has this number, and so `None` where no code has it.
         ensures { (code : ReplyCode) → (result ≡ Some code) ↔ (number_of code ≡ number) }
     {
         Some(match number {
@@ -171,6 +173,8 @@ impl ReplyCode {
 
 /// `==` of codes is equality, and a clone is equal.
 pub fn same_codes()
+    // `==` of two codes is true exactly where they are equal.
     ensures equal { (a b : RustCode) → IsTrue (⟦<ReplyCode as PartialEq>⟧.eq a b) ↔ (a ≡ b) }
+    // A clone of a code is equal to it.
     ensures clone { (a b : RustCode) → ⟦<ReplyCode as Clone>⟧.is_clone a b → b ≡ a }
 {}

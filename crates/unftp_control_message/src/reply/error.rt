@@ -51,6 +51,7 @@ pub enum ControlChanErrorKind {
 impl ControlChanErrorKind {
     /// The text of the kind, without the command that it may hold.
     pub fn reason(&self) -> &'static str
+        // The text of the definition for this kind; that of `UnknownCommand` lacks the command.
         ensures { result.now ≡ kind_reason (kind_meant self.now) }
     {
         match self {
@@ -126,7 +127,9 @@ impl Model for ControlChanError {
 impl ControlChanError {
     /// An error of this kind that comes from nothing else.
     pub fn new(kind: ControlChanErrorKind) -> ControlChanError
+        // The error has this kind.
         ensures kind { result.kind ≡ kind }
+        // The error comes from nothing else.
         ensures source { result.source ≡ Source.None }
     {
         ControlChanError {
@@ -137,6 +140,7 @@ impl ControlChanError {
 
     /// Its kind.
     pub fn kind(&self) -> &ControlChanErrorKind
+        // Exactly the kind of the error.
         ensures { result.now ≡ self.now.kind }
     {
         &self.kind
@@ -144,6 +148,7 @@ impl ControlChanError {
 
     /// What it comes from.
     pub fn source(&self) -> &Source
+        // Exactly the source of the error.
         ensures { result.now ≡ self.now.source }
     {
         &self.source
@@ -252,6 +257,7 @@ impl From<AllocError> for ControlChanError {
 
 /// `==` of kinds is equality of what they mean.
 pub fn same_kinds()
+    // `==` of two kinds is true exactly where they mean the same.
     ensures { (a b : RustKind)
         → IsTrue (⟦<ControlChanErrorKind as PartialEq>⟧.eq a b) ↔ (kind_meant a ≡ kind_meant b) }
 {}

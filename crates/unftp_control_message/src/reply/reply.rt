@@ -41,8 +41,10 @@ pub enum Reply {
 impl Reply {
     /// A reply of one line. It fails only when out of memory, with the kind `OutOfMemory`.
     pub fn new(alloc: Global, code: ReplyCode, message: &str) -> Result<Reply, ControlChanError>
+        // At `Ok` the reply is `CodeAndMsg`, with this code and this text.
         ensures ok { IfOk result (λ reply.
             reply_of reply ≡ CodeAndMsg (number_of code) message.now) }
+        // An error is out of memory, without a source.
         ensures err { IfErr result (λ error. fault_of error ≡ out_of_memory) }
     {
         let msg = String::from_str(alloc, message)?;
@@ -51,6 +53,7 @@ impl Reply {
 
     /// A reply of one line that holds this text. It takes no memory.
     pub fn new_with_string(code: ReplyCode, msg: String) -> Reply
+        // The reply is `CodeAndMsg`, with this code and this text.
         ensures { reply_of result ≡ CodeAndMsg (number_of code) (string_bytes msg) }
     {
         Reply::CodeAndMsg { code, msg }
@@ -64,12 +67,16 @@ impl Reply {
         code: ReplyCode,
         lines: I,
     ) -> Result<Reply, ControlChanError>
+        // Whatever iterator is made of the lines can be called, and ends.
         requires { IsFiniteIterable I.into_iter_gives
             I.IntoIter.can_next I.IntoIter.remaining lines }
+        // At `Ok` the reply is `MultiLine`, with this code and all texts that the iterator gives,
+        // in order.
         ensures ok { IfOk result (λ reply.
             (iterator : I.IntoIter) × (texts : _) × I.into_iter_gives lines iterator
             × Drains I.IntoIter.next_gives iterator texts
             × (reply_of reply ≡ MultiLine (number_of code) (map (λ text. text.now) texts))) }
+        // An error is out of memory, without a source.
         ensures err { IfErr result (λ error. fault_of error ≡ out_of_memory) }
     {
         let lines = owned_lines(alloc, lines)?;
@@ -78,6 +85,7 @@ impl Reply {
 
     /// The reply of which nothing is sent.
     pub fn none() -> Reply
+        // It is the reply of which nothing is sent.
         ensures { reply_of result ≡ Nothing }
     {
         Reply::None
@@ -85,6 +93,7 @@ impl Reply {
 
     /// Whether it reports no failure: a code from 200 to 399, or no reply (RFC 959, section 4.2.1).
     pub fn is_positive(&self) -> bool
+        // True exactly for a code from 200 to 399, and for `Reply::None`.
         ensures { result ≡ is_positive (reply_of self.now) }
     {
         match self {
@@ -98,6 +107,8 @@ impl Reply {
     /// Whether a client can read it back as it is: a code of three digits, and no text with a line
     /// feed, or no reply (RFC 959, section 4.2).
     pub fn is_plain(&self) -> bool
+        // True exactly for `Reply::None`, and for a code of three digits where no text has a line
+        // feed.
         ensures { IsTrue result ↔ IsPlain (reply_of self.now) }
     {
         let (code, are_lines) = match self {
@@ -111,7 +122,9 @@ impl Reply {
     /// A reply that says the same, or `AllocError` when out of memory, which leaves this one as it
     /// is. `Reply::None` takes no memory.
     pub fn clone(&self, alloc: Global) -> Result<Reply, AllocError>
+        // At `Ok` the new reply has the same form, code and texts.
         ensures ok { IfOk result (λ reply. reply_of reply ≡ reply_of self.now) }
+        // It is out of memory only for a reply other than `Reply::None`.
         ensures memory { OnErr result (¬ (reply_of self.now ≡ Nothing)) }
     {
         Ok(match self {
@@ -207,6 +220,7 @@ impl fmt::Debug for Reply {
 
 /// `==` of replies is equality of code and texts.
 pub fn same_replies()
+    // `==` of two replies is true exactly where their form, code and texts are equal.
     ensures { (a b : RustReply)
         → IsTrue (⟦<Reply as PartialEq>⟧.eq a b) ↔ (reply_of a ≡ reply_of b) }
 {}

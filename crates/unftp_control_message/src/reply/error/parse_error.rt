@@ -28,6 +28,7 @@ pub enum ParseErrorKind {
 impl ParseErrorKind {
     /// The text of the kind.
     pub fn reason(&self) -> &'static str
+        // The text of the definition for this refusal, or for out of memory.
         ensures { result.now ≡ reading_text (refusal_of self.now) }
     {
         match self {
@@ -95,6 +96,7 @@ impl Model for ParseError {
 impl ParseError {
     /// Its kind.
     pub fn kind(&self) -> &ParseErrorKind
+        // Exactly the kind of the error.
         ensures { result.now ≡ self.now }
     {
         &self.kind
@@ -145,7 +147,10 @@ pub type Result<T> = result::Result<T, ParseError>;
 
 /// `==` of the parser's errors and of their kinds is equality, and a clone of a kind is equal.
 pub fn same_parse_errors()
+    // `==` of two errors is true exactly where their kinds are equal.
     ensures errors { (a b : RustKind) → IsTrue (⟦<ParseError as PartialEq>⟧.eq a b) ↔ (a ≡ b) }
+    // `==` of two kinds is true exactly where they are equal.
     ensures kinds { (a b : RustKind) → IsTrue (⟦<ParseErrorKind as PartialEq>⟧.eq a b) ↔ (a ≡ b) }
+    // A clone of a kind is equal to it.
     ensures clone { (a b : RustKind) → ⟦<ParseErrorKind as Clone>⟧.is_clone a b → b ≡ a }
 {}
