@@ -34,8 +34,11 @@ parser_out_of_memory = record { kind = OutOfMemory; source = Parse None }
 -- This is returned, the codec is then this one, and so many bytes leave the start of the buffer.
 pub record Answers (returned : Option FtpEvent) (codec : Codec) (n : ℕ) (new : Codec)
     (before after : Bytes) (answer : Decoded) : Type 0 where
+  -- Exactly this event is returned, or none.
   pub returned_is : returned_event answer ≡ returned
+  -- The codec is exactly this one.
   pub goes_on_at : new ≡ codec
+  -- Only the first n bytes leave the buffer: those after them stay.
   pub taken : after ≡ drop n before
 
 -- Where no line is complete, the bytes stay, or are dropped where the line is too long already. A

@@ -47,8 +47,11 @@ pub record HasCompared (finder : Finder) (bytes : Bytes) : Type 0 where
 
 -- It goes on after n of these bytes, and each byte was compared once that was not before.
 pub record GoesOnAfter (n : ℕ) (old : Finder) (bytes : Bytes) (new : Finder) : Type 0 where
+  -- The bytes that are left begin with those that it has compared.
   pub rest : HasCompared new (drop n bytes)
+  -- The count grows by the bytes from the old end of what is compared to the new one, each once.
   pub once : new.tests + old.compared ≡ old.tests + (n + new.compared)
+  -- The count never falls.
   pub never_fewer : old.tests ≤ new.tests
 
 -- after the line feed, or where there is none, at the same bytes

@@ -43,7 +43,7 @@ pub record AreWords (answer : Outcome) (words : Words) : Type 0 where
 
 -- ---- where they are in the line
 
--- The word in front of the parameter is this verb's.
+-- The word before the parameter is this verb's.
 abbrev pub IsRuled : Verb → Bytes → Words → Type 0
 IsRuled ruled line words = (words.verb ≡ ruled) × (words.parameter.now ≡ parameter_of line)
 
@@ -77,7 +77,7 @@ EndsAfterByte bytes end = (front : Bytes) × (bytes ≡ front ++ end)
 
 -- ---- what they say
 
--- A verb alone has an empty value, and a text is not empty.
+-- A verb without a parameter takes only an empty value, and a text is not empty.
 abbrev pub refuses : Kind → Bytes → Bool
 refuses kinds.Alone v = not (length v == 0)
 refuses kinds.Text v = length v == 0

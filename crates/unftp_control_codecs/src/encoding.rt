@@ -16,9 +16,13 @@ const LINE_END: usize = 2;
 /// Appends the bytes of the reply. The buffer grows once at most, and only where it lacks room for
 /// them; when out of memory, it is as it was.
 pub fn append_reply(reply: &Reply, buf: &mut Vec<u8>) -> Result<(), AllocError>
+    // At `Ok` exactly the bytes of the reply are appended; `Reply::None` has none.
     ensures ok { OnOk result (buf.new.items ≡ buf.old.items ++ encoded (reply_of reply.now)) }
+    // At an error the buffer holds what it held.
     ensures err { OnErr result (buf.new.items ≡ buf.old.items) }
+    // For `Reply::None` it always returns `Ok`.
     ensures no_memory { reply_of reply.now ≡ Nothing → IsOk result }
+    // It is out of memory only where the buffer lacks room for those bytes.
     ensures memory { OnErr result (LacksRoom buf.old (encoded (reply_of reply.now))) }
 {
     let length = buf.len();
@@ -192,6 +196,7 @@ fn append_spaced_line(text: &[u8], buf: &mut Vec<u8>) -> Result<(), AllocError>
 /// Whether the text begins with a digit. A line before the last of a reply then follows a space, so
 /// that no client takes it for the last one (RFC 959, section 4.2).
 pub fn begins_with_digit(text: &[u8]) -> bool
+    // True exactly where a line before the last is padded with a space.
     ensures { padded text.now ≡ (if result then SP ∷ text.now else text.now) }
 {
     match text {
@@ -268,9 +273,12 @@ pub fn append_lines<S: AsSlice<u8>>(
     lines: &[S],
     buf: &mut Vec<u8>,
 ) -> Result<(), AllocError>
+    // At `Ok` exactly the bytes of the reply with this code and these lines are appended.
     ensures ok { OnOk result (buf.new.items
         ≡ buf.old.items ++ encoded (MultiLine code (map S.items lines.now))) }
+    // The bytes that the buffer held stay, whatever the result.
     ensures kept { take (vec_len buf.old) buf.new.items ≡ buf.old.items }
+    // It is out of memory only where the buffer lacks room for those bytes.
     ensures memory { OnErr result
         (LacksRoom buf.old (encoded (MultiLine code (map S.items lines.now)))) }
 {

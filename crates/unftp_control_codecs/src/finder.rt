@@ -39,7 +39,9 @@ impl Model for LineFinder {
 impl LineFinder {
     /// One that has begun no line, with this limit, if there is one.
     pub fn new(limit: Option<usize>) -> LineFinder
+        // A limit is at least 1.
         requires { MatchOption limit ⊤ (λ most. 1 ≤ most) }
+        // It has begun no line and compared no byte, and has this limit.
         ensures { result ≡ new_finder limit }
     {
         LineFinder {
@@ -53,6 +55,7 @@ impl LineFinder {
 
     /// How many bytes were compared with a line feed. Only contracts see it.
     pub fn tests(&self) -> Count
+        // The number of bytes compared so far.
         ensures { result ≡ self.now.tests }
     {
         self.tests.count()
@@ -62,13 +65,21 @@ impl LineFinder {
     /// the line, or after those that are dropped. No memory is taken.
     #[inline(always)]
     pub fn find_line(&mut self, bytes: &[u8]) -> FirstLine
+        // The bytes begin with those that it has compared, with line feeds where it keeps them.
         requires { HasCompared self.old bytes.now }
+        // It is what the definition finds at the start of the bytes, under the finder's limit.
         ensures found { result ≡ first_line (codec_of self.old) bytes.now }
+        // Whether it is dropping a line that is too long is as the definition gives it; the limit
+        // stays.
         ensures codec { codec_of self.new ≡ record (goes_on (codec_of self.old) bytes.now) {
           place = 0;
           tests = self.new.tests;
         } }
+        // It goes on after the line or the dropped bytes, and each byte was compared once that was
+        // not before.
         ensures goes_on { GoesOnAfter (after_found result) self.old bytes.now self.new }
+        // Where no line is complete, all bytes that are left are compared; after a line at most 31
+        // are.
         ensures ahead { ComparedAfter result bytes.now self.new.compared }
     {
         let Some(end) = self.next_line_feed(bytes) else {
@@ -136,6 +147,7 @@ impl LineFinder {
 
     /// Goes on with other bytes, from the start of a line.
     pub fn restart(&mut self)
+        // It has begun no line, and keeps its limit and its count of compared bytes.
         ensures { self.new ≡ restarted self.old }
     {
         (self.compared, self.line_feeds, self.skipping) = (0, 0, false);

@@ -86,6 +86,7 @@ pub enum FirstLine {
 impl FtpCodec {
     /// A new codec: nothing scanned, no limit.
     pub fn new() -> FtpCodec
+        // Nothing is scanned, no byte is dropped, and there is no limit.
         ensures { result ≡ new_codec None }
     {
         FtpCodec::at(0)
@@ -94,7 +95,9 @@ impl FtpCodec {
     /// A new codec with a limit: a line of more than `limit` bytes, its line feed counted, is
     /// refused, whatever it holds (RFC 959 names no limit).
     pub fn with_limit(limit: usize) -> FtpCodec
+        // The limit is at least 1.
         requires { 1 ≤ limit }
+        // Nothing is scanned, no byte is dropped, and the limit is this one.
         ensures { result ≡ new_codec (Some limit) }
     {
         FtpCodec::resume(Some(limit), 0, false)
@@ -104,6 +107,7 @@ impl FtpCodec {
     /// first line then ends at the first line feed at or after it, so there should be none before
     /// it.
     pub fn at(place: usize) -> FtpCodec
+        // It has this scan offset and no limit, has dropped no byte, and has scanned none itself.
         ensures { result ≡ record { place = place; tests = 0; limit = None; skipping = false } }
     {
         FtpCodec::resume(None, place, false)
@@ -112,8 +116,11 @@ impl FtpCodec {
     /// A codec that goes on where another one with this limit stopped, for a caller that keeps only
     /// what `place` and `skipping` returned. It has scanned nothing itself.
     pub fn resume(limit: Option<usize>, place: usize, skipping: bool) -> FtpCodec
+        // A limit is at least 1.
         requires limit { MatchOption limit ⊤ (λ most. 1 ≤ most) }
+        // Where bytes of the first line were dropped, the scan offset is 0.
         requires place { IsTrue skipping → place ≡ 0 }
+        // It has exactly this limit, scan offset and `skipping`, and has scanned no byte itself.
         ensures { result
             ≡ record { place = place; tests = 0; limit = limit; skipping = skipping } }
     {
@@ -128,7 +135,9 @@ impl FtpCodec {
     /// Whether the bytes so far of a line that is longer than the limit were dropped. The rest of
     /// it is dropped too, and at its line feed it is refused.
     pub fn skipping(&self) -> bool
+        // True exactly where the bytes so far of the first line were dropped.
         ensures skipping { result ≡ self.now.skipping }
+        // Where it is true, the scan offset is 0.
         ensures place { IsTrue result → self.now.place ≡ 0 }
     {
         self.skipping
@@ -137,6 +146,8 @@ impl FtpCodec {
     /// Forgets the line that it has begun: its scan offset is 0, and it drops no bytes. The limit
     /// and the count of scanned bytes stay.
     pub fn reset(&mut self)
+        // The scan offset is 0 and `skipping` is false; the limit and the count of scanned bytes
+        // stay.
         ensures { self.new ≡ reset self.old }
     {
         (self.place, self.skipping) = (0, false);
@@ -145,6 +156,7 @@ impl FtpCodec {
     /// The scan offset: where the next search for a line feed begins, in bytes from the start of
     /// the buffer.
     pub fn place(&self) -> usize
+        // Exactly the scan offset.
         ensures { result ≡ self.now.place }
     {
         self.place
@@ -153,6 +165,7 @@ impl FtpCodec {
     /// How many bytes were compared with a line feed: those up to each that was found, and all
     /// where none was. Only contracts see it.
     pub fn tests(&self) -> Count
+        // The number of bytes scanned so far.
         ensures { result ≡ self.now.tests }
     {
         self.tests.count()
@@ -181,10 +194,16 @@ impl FtpCodec {
         alloc: Global,
         bytes: &[u8],
     ) -> (usize, Result<Option<Command>, ControlChanError>)
+        // The scan offset is within the bytes.
         requires { self.old.place ≤ length bytes.now }
+        // The first line is taken and its event returned, or `None` while no line is complete. Out
+        // of memory comes only for a line that may take memory, and then no byte is taken.
         ensures decodes { Decodes self.old self.new
             bytes.now (drop result.0 bytes.now) result.1 }
+        // The scan offset is within the bytes that are left.
         ensures within { result.0 + self.new.place ≤ length bytes.now }
+        // Unless it is out of memory, the count grows by the bytes from the old scan offset to the
+        // new one, each once.
         ensures counted { ¬ IsOutOfMemory result.1
             → self.new.tests + self.old.place ≡ self.old.tests + self.new.place + result.0 }
     {
@@ -219,8 +238,11 @@ impl FtpCodec {
     /// The scan offset has to be within `bytes`, as for `decode_slice`.
     // `decode_slice` doesn't call it: a piece of one byte would take a third longer
     pub fn find_line(&mut self, bytes: &[u8]) -> FirstLine
+        // The scan offset is within the bytes.
         requires { self.old.place ≤ length bytes.now }
+        // It is what the definition finds for this codec and these bytes.
         ensures found { result ≡ first_line self.old bytes.now }
+        // The codec goes on as the definition has it for this codec and these bytes.
         ensures codec { self.new ≡ goes_on self.old bytes.now }
     {
         match Scan::over(bytes, &mut self.tests).find_line_feed(self.place) {
@@ -275,9 +297,15 @@ impl FtpCodec {
         alloc: Global,
         buf: &mut Vec<u8>,
     ) -> Result<Option<Command>, ControlChanError>
+        // The scan offset is within the buffer.
         requires { self.old.place ≤ vec_len buf.old }
+        // The first line leaves the buffer and its event is returned, or `None` while no line is
+        // complete. Out of memory comes only for a line that may take memory, and the buffer stays.
         ensures decodes { Decodes self.old self.new buf.old.items buf.new.items result }
+        // The scan offset is within the buffer.
         ensures within { self.new.place ≤ vec_len buf.new }
+        // Unless it is out of memory, the count grows by the bytes from the old scan offset to the
+        // new one, each once.
         ensures counted { ¬ IsOutOfMemory result
             → self.new.tests + self.old.place + vec_len buf.new
             ≡ self.old.tests + self.new.place + vec_len buf.old }
@@ -293,11 +321,16 @@ impl FtpCodec {
     /// It fails only when out of memory, with the kind `OutOfMemory`: where `buf` lacks room for
     /// the reply and can't grow. `buf` is then as it was.
     pub fn encode(&mut self, reply: Reply, buf: &mut Vec<u8>) -> Result<(), ControlChanError>
+        // At `Ok` exactly the bytes of the reply are appended; `Reply::None` has none.
         ensures ok { OnOk result (buf.new.items ≡ buf.old.items ++ encoded (reply_of reply)) }
+        // At an error the buffer holds what it held.
         ensures err { OnErr result (buf.new.items ≡ buf.old.items) }
+        // An error is out of memory, and comes only where the buffer lacks room for those bytes.
         ensures memory { IfErr result (λ error. (fault_of error ≡ out_of_memory)
             × LacksRoom buf.old (encoded (reply_of reply))) }
+        // For `Reply::None` it always returns `Ok`.
         ensures no_memory { reply_of reply ≡ Nothing → IsOk result }
+        // The codec stays as it was.
         ensures codec { self.new ≡ self.old }
     {
         let appended = append_reply(&reply, buf);
@@ -324,10 +357,14 @@ fn is_too_long(limit: Option<usize>, skipping: bool, length: usize) -> bool
 /// It fails only when out of memory, with the kind `OutOfMemory`: where `buf` lacks room for the
 /// reply and can't grow. `buf` is then as it was.
 pub fn encode_reply(reply: &Reply, buf: &mut Vec<u8>) -> Result<(), ControlChanError>
+    // At `Ok` exactly the bytes of the reply are appended; `Reply::None` has none.
     ensures ok { OnOk result (buf.new.items ≡ buf.old.items ++ encoded (reply_of reply.now)) }
+    // At an error the buffer holds what it held.
     ensures err { OnErr result (buf.new.items ≡ buf.old.items) }
+    // An error is out of memory, and comes only where the buffer lacks room for those bytes.
     ensures memory { IfErr result (λ error. (fault_of error ≡ out_of_memory)
         × LacksRoom buf.old (encoded (reply_of reply.now))) }
+    // For `Reply::None` it always returns `Ok`.
     ensures no_memory { reply_of reply.now ≡ Nothing → IsOk result }
 {
     Ok(append_reply(reply, buf)?)

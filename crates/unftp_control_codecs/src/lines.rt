@@ -24,6 +24,7 @@ pub enum EncodeLinesError {
 
 /// Whether a reply can have this code: it is from 100 to 599 (RFC 959, section 4.2).
 pub fn is_reply_code(code: u32) -> bool
+    // True exactly for a code from 100 to 599.
     ensures { IsTrue result ↔ IsReplyCode code }
 {
     (100..=599).contains(&code)
@@ -42,14 +43,20 @@ pub fn encode_lines<S: AsSlice<u8>>(
     lines: &[S],
     buf: &mut Vec<u8>,
 ) -> Result<(), EncodeLinesError>
+    // At `Ok` exactly the bytes of the reply with this code and these lines are appended.
     ensures ok { OnOk result (buf.new.items
         ≡ buf.old.items ++ encoded (MultiLine code (map S.items lines.now))) }
-    // Where no line has a line feed, a client finds exactly this reply in what was appended.
+    // At `Ok`, where no line has a line feed, a client finds exactly this reply in what was
+    // appended.
     ensures read_back { OnOk result (AllByRecursion (Lacks LF) (map S.items lines.now)
         → ReadsBack (drop (vec_len buf.old) buf.new.items)
         (MultiLine code (map S.items lines.now) ∷ [])) }
+    // At an error the buffer holds what it held.
     ensures err { OnErr result (buf.new.items ≡ buf.old.items) }
+    // `CodeOutOfRange` comes exactly where the code is not from 100 to 599, whether there is memory
+    // or not.
     ensures out_of_range { IsErrOf result EncodeLinesError.CodeOutOfRange ↔ ¬ IsReplyCode code }
+    // It is out of memory only where the buffer lacks room for those bytes.
     ensures memory { IsErrOf result EncodeLinesError.OutOfMemory
         → LacksRoom buf.old (encoded (MultiLine code (map S.items lines.now))) }
 {

@@ -15,7 +15,9 @@ use unftp_control_message::utf8;
 #[inline(always)]
 #[tactic(auto, using(crate::proofs::TextLemmas::texts))]
 pub fn text(sent: Sent<'_>) -> Value<'_>
+    // The text of the value, each ill-formed part of UTF-8 replaced by U+FFFD.
     ensures value { said_value result ≡ Text (utf8_lossy (sent_value sent.entry)) }
+    // A text is borrowed as it was sent, unless it was sent with CR NUL or is ill-formed UTF-8.
     ensures borrowed { IsBorrowed result }
 {
     let Sent::Plain(bytes) = sent else {
@@ -30,7 +32,9 @@ pub fn text(sent: Sent<'_>) -> Value<'_>
 /// The value as bytes, or none where it is empty.
 #[inline(always)]
 pub fn raw(sent: Sent<'_>) -> Value<'_>
+    // The bytes of the value, or `Value::None` where it is empty.
     ensures value { said_value result ≡ maybe_raw (unless_empty (sent_value sent.entry)) }
+    // A text is borrowed as it was sent, unless it was sent with CR NUL or is ill-formed UTF-8.
     ensures borrowed { IsBorrowed result }
 {
     if sent.is_empty() {
@@ -42,7 +46,9 @@ pub fn raw(sent: Sent<'_>) -> Value<'_>
 /// The value as text, or none where it is empty.
 #[inline(always)]
 pub fn optional_text(sent: Sent<'_>) -> Value<'_>
+    // The text of the value, or `Value::None` where it is empty.
     ensures value { said_value result ≡ optional_text (sent_value sent.entry) }
+    // A text is borrowed as it was sent, unless it was sent with CR NUL or is ill-formed UTF-8.
     ensures borrowed { IsBorrowed result }
 {
     if sent.is_empty() {
@@ -82,8 +88,10 @@ fn path_start(value: &[u8]) -> usize
 /// The path of LIST, or none where nothing is after its options.
 #[tactic(auto, using(crate::proofs::TextLemmas::texts))]
 pub fn listing(sent: Sent<'_>) -> Value<'_>
+    // The path of LIST in the text of the value, or `Value::None` where it is empty.
     ensures value { said_value result
         ≡ maybe_text (unless_empty (path_of (utf8_lossy (sent_value sent.entry)))) }
+    // A text is borrowed as it was sent, unless it was sent with CR NUL or is ill-formed UTF-8.
     ensures borrowed { IsBorrowed result }
 {
     optional_text(path_in(sent))
@@ -92,6 +100,7 @@ pub fn listing(sent: Sent<'_>) -> Value<'_>
 /// The path of LIST in its value.
 // it is found in what is sent: a CR and its NUL are both in an option, or both in the path
 pub fn path_in<'a>(sent: Sent<'a>) -> Sent<'a>
+    // Exactly the path of LIST in the value.
     ensures { sent_value result ≡ path_of (sent_value sent.entry) }
 {
     let (_, path) = sent.sent().split_at(path_start(sent.sent()));

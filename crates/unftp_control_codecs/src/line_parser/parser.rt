@@ -114,7 +114,9 @@ fn any_verb_len(line: &[u8]) -> usize
 /// The verb, and the parameter bytes after the one byte that ends it.
 #[inline(always)]
 pub fn split<'a>(line: &'a [u8]) -> (&'a [u8], &'a [u8])
+    // The bytes before the first space, CR or LF.
     ensures verb { result.0.now ≡ verb_of line.now }
+    // The bytes after that space, CR or LF.
     ensures parameter { result.1.now ≡ parameter_of line.now }
 {
     let end = verb_len(line);
@@ -137,10 +139,12 @@ pub fn split<'a>(line: &'a [u8]) -> (&'a [u8], &'a [u8])
 /// Out of memory for the texts of its command, a line is refused with `OutOfMemory`; no other
 /// refusal takes memory.
 pub fn parse(alloc: Global, line: &[u8]) -> Result<Command>
+    // For every byte string it is the command or the refusal that the grammar gives, or out of
+    // memory.
     ensures answer { Returns (outcome line.now) result }
-    // it runs out of memory only where its command holds bytes
+    // It is out of memory only where the line's command holds bytes, or is a password.
     ensures memory { OnOutOfMemory result (MayTakeMemory line.now) }
-    // a command is one that `write_command` has a line for
+    // Where the line has one line feed, its last byte, `write_command` has a line for the command.
     ensures has_line { IsLine line.now → IfOk result (λ command. HasLine (command_of command)) }
 {
     Ok(command_in(alloc, line)?)
@@ -160,6 +164,8 @@ fn command_in(alloc: Global, line: &[u8]) -> result::Result<Command, ParseErrorK
 // it is inlined, and what it calls: to move its result takes as long as to find it
 #[inline(always)]
 pub fn parts(line: &[u8]) -> result::Result<Parts<'_>, ParseErrorKind>
+    // The verb, the name in any case and the value of the line's command, a text borrowed where it
+    // can be, or the line's refusal. It is never out of memory.
     ensures { PartsTo (outcome line.now) result }
 {
     Words::of(line).parts()
@@ -167,11 +173,12 @@ pub fn parts(line: &[u8]) -> result::Result<Parts<'_>, ParseErrorKind>
 
 /// The value of a line's parameter (RFC 959, section 5.3): the bytes that were sent, a CR NUL as
 /// one CR (RFC 854), without the line's end. It is `None` exactly where the parameter has an
-/// invalid line ending. The verb is not looked at, and no memory is taken.
+/// invalid line ending. The verb is not read, and no memory is taken.
 ///
 /// The parameter of SITE is a subcommand and a parameter of that. For the value of the latter call
 /// it with the bytes of the line after SITE and the one byte that follows it.
 pub fn parameter(line: &[u8]) -> Option<Sent<'_>>
+    // The value of the line's parameter, or `None` exactly where it has none by the grammar.
     ensures { option_map sent_value result ≡ value_of (parameter_of line.now) }
 {
     let (_, parameter) = split(line);
@@ -182,6 +189,8 @@ pub fn parameter(line: &[u8]) -> Option<Sent<'_>>
 /// dash, options as those of `ls`, and after `--`. It is `None` exactly where `parameter` is. No
 /// memory is taken.
 pub fn list_path(line: &[u8]) -> Option<Sent<'_>>
+    // The path of LIST in the value of the line's parameter, or `None` exactly where there is no
+    // value.
     ensures { option_map sent_value result ≡ option_map path_of (value_of (parameter_of line.now)) }
 {
     Some(path_in(parameter(line)?))
@@ -205,8 +214,12 @@ impl<'a> Words<'a> {
     /// The words that a line begins with. It takes no memory.
     #[inline(always)]
     pub fn of(line: &'a [u8]) -> Words<'a>
+        // They are the verb, the name and the parameter that the line begins with, of SITE those of
+        // its subcommand.
         ensures begins { BeginsWithWords line.now result }
+        // What the line means follows from these words.
         ensures means { AreWords (outcome line.now) result }
+        // The line ends with the parameter, after another byte where the parameter is not empty.
         ensures in_line { EndsAfterByte line.now result.parameter.now }
     {
         let (word, parameter) = split(line);
@@ -232,6 +245,7 @@ impl<'a> Words<'a> {
     /// The verb; of SITE that of the subcommand.
     #[inline(always)]
     pub fn verb(self) -> Verb
+        // Exactly its verb.
         ensures { result ≡ self.entry.verb }
     {
         self.verb
@@ -240,6 +254,7 @@ impl<'a> Words<'a> {
     /// What the verb makes of its parameter.
     #[inline(always)]
     pub fn kind(self) -> Kind
+        // Exactly its kind.
         ensures { result ≡ self.entry.kind }
     {
         self.kind
@@ -249,6 +264,7 @@ impl<'a> Words<'a> {
     /// is empty. It may not be UTF-8: `sent` and `parts` refuse such a line.
     #[inline(always)]
     pub fn name(self) -> &'a [u8]
+        // Exactly its name.
         ensures { result.now ≡ self.entry.name.now }
     {
         self.name
@@ -257,18 +273,22 @@ impl<'a> Words<'a> {
     /// The parameter bytes.
     #[inline(always)]
     pub fn parameter(self) -> &'a [u8]
+        // Exactly its parameter.
         ensures { result.now ≡ self.entry.parameter.now }
     {
         self.parameter
     }
 
     /// The verb, where it is all that the line says: its parameter is ignored, or is what the CR LF
-    /// of a line without one leaves. It is none for `NOOP` before a line feed alone, though that
+    /// of a line without one leaves. It is none for `NOOP` before only a line feed, though that
     /// says no more. It is for callers to whom a value's absence is worth a test.
     #[inline(always)]
     pub fn lone_verb(self) -> Option<Verb>
+        // It is the verb exactly where this ignores its parameter, or takes none and the parameter
+        // is one line feed.
         ensures lone { MatchOption result (¬ IsLone self.entry)
             (λ verb. IsLone self.entry × (verb ≡ self.entry.verb)) }
+        // Where it is a verb, the line says this verb, without a name or a value.
         ensures says { IfSome result (λ verb. (answer : Outcome) → AreWords answer self.entry
             → IsSaid answer (record { verb = verb; name = []; value = Nothing })) }
     {
@@ -283,6 +303,8 @@ impl<'a> Words<'a> {
     /// callers to whom the place of a value in its line is worth a test. It takes no memory.
     #[inline(always)]
     pub fn usual_value(self) -> Option<&'a [u8]>
+        // Where it is a value, it is not empty, the parameter is this value and CR LF, and the line
+        // says it.
         ensures { IfSome result (λ value. IsUsual self.entry value.now) }
     {
         match self.kind {
@@ -304,7 +326,10 @@ impl<'a> Words<'a> {
     /// line is refused as by `parts`, and no memory is taken.
     #[inline(always)]
     pub fn sent(self) -> result::Result<Option<Sent<'a>>, ParseErrorKind>
+        // The verb takes no value of a type of its own.
         requires { self.kind ≢ kinds.Typed }
+        // At `Ok` it is the value of the parameter, and the line is a command of this verb and
+        // name. An error is the line's refusal, and never out of memory.
         ensures { (answer : Outcome) → AreWords answer self.entry
             → Sends answer self.entry result }
     {
@@ -319,8 +344,12 @@ impl<'a> Words<'a> {
     /// What the line says: `parts` of the line. It is refused as that is, and takes no memory.
     #[inline(always)]
     pub fn parts(self) -> result::Result<Parts<'a>, ParseErrorKind>
+        // The kind is not `Subcommand`, as it never is after `of`.
         requires { self.kind ≢ kinds.Subcommand }
+        // It is what the line says, a text borrowed where it can be, or the line's refusal. It is
+        // never out of memory.
         ensures parts { (answer : Outcome) → AreWords answer self.entry → PartsTo answer result }
+        // At `Ok` the parts have this verb.
         ensures verb { IfOk result (λ parts. parts.verb ≡ self.entry.verb) }
     {
         Ok(Parts {
@@ -370,7 +399,8 @@ fn site(parameter: &[u8]) -> Words<'_>
     }
 }
 
-/// Whether a verb of this kind refuses the value: that of a verb alone is empty, and a text is not.
+/// Whether a verb of this kind refuses the value: a verb without a parameter takes only an empty
+/// one, and a text is not empty.
 #[inline(always)]
 fn refuses(kind: Kind, sent: Sent<'_>) -> bool
     ensures { result ≡ refuses kind (sent_value sent.entry) }

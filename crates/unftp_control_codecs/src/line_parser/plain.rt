@@ -53,6 +53,7 @@ fn few_are_plain(bytes: &[u8]) -> bool
 // over many bytes `memchr2` takes five times the instructions on the oldest x86-64
 #[inline(always)]
 pub fn is_plain(value: &[u8]) -> bool
+    // Where it is true, no byte of the value is a CR or an LF.
     ensures { IsTrue result → LacksRunEnd value.now 0 (length value.now) }
 {
     match value.len() {

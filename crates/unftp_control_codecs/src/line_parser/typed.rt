@@ -17,6 +17,8 @@ type Typed<'a> = Result<Value<'a>, ParseErrorKind>;
 
 /// What the verb's own type makes of the value.
 pub fn typed<'a>(verb: Verb, sent: Sent<'_>) -> Typed<'a>
+    // The value of the verb's own type by the definition, or the refusal; it is never out of
+    // memory.
     ensures { ReadsTo (typed_outcome verb (sent_value sent.entry)) verb [] result }
 {
     match sent {

@@ -75,6 +75,7 @@ fn begins_with_line_end(bytes: &[u8]) -> bool
 /// Whether the value of the parameter is empty: there is only an end of line, or nothing at all.
 #[inline(always)]
 pub fn has_no_value(parameter: &[u8]) -> bool
+    // True exactly where the value of the parameter is empty.
     ensures { IsTrue result ↔ (value_of parameter.now ≡ Some []) }
 {
     match parameter {
@@ -110,8 +111,11 @@ fn usual_value(parameter: &[u8]) -> Option<&[u8]>
 /// The same, where it is not empty.
 #[inline(always)]
 pub fn some_usual_value(parameter: &[u8]) -> Option<&[u8]>
+    // Where it is a value, it is that of the parameter.
     ensures value { IfSome result (λ value. value_of parameter.now ≡ Some value.now) }
+    // Where it is a value, the parameter is this value and CR LF.
     ensures end { IfSome result (λ value. parameter.now ≡ value.now ++ crlf) }
+    // Where it is a value, it is not empty.
     ensures some { IfSome result (λ value. 0 < length value.now) }
 {
     let value = usual_value(parameter)?;
@@ -124,6 +128,7 @@ pub fn some_usual_value(parameter: &[u8]) -> Option<&[u8]>
 /// The value of parameter bytes; none after an invalid line ending. It takes no memory.
 #[inline(always)]
 pub fn parameter_value<'a>(parameter: &'a [u8]) -> Option<Sent<'a>>
+    // The value of the parameter, or `None` exactly where it has none by the definition.
     ensures { option_map sent_value result ≡ value_of parameter.now }
 {
     if has_no_value(parameter) {
@@ -154,7 +159,7 @@ fn some_value<'a>(parameter: &'a [u8]) -> Option<Sent<'a>>
     if begins_with_line_end(after) {
         return Some(Sent::Plain(value));
     }
-    // after a bare CR there is nothing to look for
+    // what follows can't mend a bare CR, and there may be no end at all
     if !begins_with_cr_nul(after) {
         return None;
     }
