@@ -66,8 +66,11 @@ pub record ReadFails (before after : InputState) : Type 0 where
 -- read came to the end.
 pub record WereRead (before after : InputState) (pieces : List Bytes) (more : List ℕ)
     : Type 0 where
+  -- The reads gave exactly the bytes of the pieces.
   pub given : HasRead before after (concat pieces)
+  -- There was one read for each piece, then those of `more`, and no other at `Ok`.
   pub reads : after.reads ≡ before.reads ++ (map length pieces ++ more)
+  -- Each piece has at least one byte and at most 4,096.
   pub sizes : AllByRecursion HasPieceSize pieces
 
 -- The last read gave nothing, at the reader's end.

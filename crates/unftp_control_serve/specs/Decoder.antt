@@ -103,7 +103,7 @@ abbrev pub buffered_as : Pending → Option ClientLine → ℕ
 buffered_as pending None = kept_length pending.limit pending.bytes
 buffered_as pending (Some line) = pending.buffered
 
--- It was looked for, and is this; so many bytes are scanned then.
+-- A search for it was made, and it is this; so many bytes are scanned then.
 abbrev pub found_as : Pending → Option ClientLine → ℕ → Pending
 found_as pending first scanned = record pending {
   kept = kept_as pending first;

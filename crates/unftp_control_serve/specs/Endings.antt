@@ -108,9 +108,13 @@ handler_failures _ = 0
 -- count of its failures rose by one; else both counts stayed.
 pub record HasAnswered {S : Type 0} (text : Bytes) (cause : Cause) (before after : Snapshot S)
     : Type 0 where
+  -- Exactly the text and the part were written.
   pub written : HasWritten before.output after.output (text_until text cause)
+  -- The text is flushed, where it is not empty; the part may not be.
   pub flushed : IsFlushed text (part_written cause) before.output.unflushed after.output.unflushed
+  -- The writer failed once where it is the cause, and else never.
   pub write_failed : after.output.failures ≡ before.output.failures + write_failures cause
+  -- The handler failed once where it is the cause, and else never.
   pub handler_failed : after.failures ≡ before.failures + handler_failures cause
 
 -- A run ended for this cause, after all replies to the events `done`, and the replies `sent` to the
@@ -118,7 +122,10 @@ pub record HasAnswered {S : Type 0} (text : Bytes) (cause : Cause) (before after
 pub record RunEnded {S : Type 0} (law : SessionLaw S) (before : Snapshot S)
     (done later : List FtpEvent) (sent : List (FtpReply × S)) (cause : Cause) (after : Snapshot S)
     : Type 0 where
+  -- The handler's state follows from the events and the replies that were sent; a fault of it is
+  -- one that its law allows there.
   pub ends_at : EndsAt law cause (last_state law before.state done) later sent after.state
+  -- The replies that were sent are written and flushed, and the failures are counted.
   pub given : HasAnswered (whole_text law before.state done sent) cause before after
 
 -- It ended because all events were answered.
@@ -151,8 +158,12 @@ pub record RunFailed (limit : Option ℕ) {S : Type 0} (law : SessionLaw S) (bef
   pub split : run_for limit law before.state input ≡ done ++ later
   pub sent : List (FtpReply × S)
   pub cause : Cause
+  -- The cause is one of this error's.
   pub means : IsCauseOf cause error
+  -- The replies to `done` and those `sent` are written; of another only a part, where the writer
+  -- failed.
   pub ended : RunEnded law before done later sent cause after
+  -- Memory runs out only for a line within the limit that may take memory: the next one.
   pub next_line : cause ≡ LineMemory → FirstMayRunOut limit (drop (length done) (lines_of input))
 
 -- All lines of the run over an input were answered: whether it ended in it, and which bytes come

@@ -52,15 +52,24 @@ module _ (limit : Option ℕ) {S : Type 0} (law : SessionLaw S) (before after : 
   -- run's last line; so many comparisons with a line feed were made; and so many bytes were held.
   pub record ServedInPieces (served : Served) : Type 0 where
     pub pieces : List Bytes
+    -- These pieces were read; and then nothing, where the handler didn't end the session.
     pub were_read : WereRead input input' pieces (if served.done then [] else 0 ∷ [])
+    -- `done` is whether the handler ended the session.
     pub ended : served.done ≡ ends_for limit law before.state (concat pieces)
+    -- It did so in the last piece: no read is made after that.
     pub in_last : served.done ≡ true → EndsInLast pieces
+    -- Else the reader has come to its end.
     pub at_end : served.done ≡ false → IsAtEnd input'.remaining
+    -- All lines of the run were answered: no write, no flush and no handler failed.
     pub answered : RunFinished law before (run_for limit law before.state (concat pieces)) after
+    -- `left` is how many bytes were read after the last line of the run.
     pub left : served.left ≡ saturating_u64 (length (unread limit law before.state (concat pieces)))
+    -- As many bytes were scanned as came up to the session's end, and at most 31 more.
     pub scanned : AreScanned served.tests (length (concat pieces))
         (length (after_end limit law before.state (concat pieces)))
+    -- The buffer held at most an incomplete line and the piece after it.
     pub held : served.held ≡ most_held limit [] pieces
+    -- No read failed.
     pub no_read_failed : input'.failures ≡ input.failures
 
   -- It failed at some line of what was read, and all lines of the pieces before the last one were
@@ -68,33 +77,44 @@ module _ (limit : Option ℕ) {S : Type 0} (law : SessionLaw S) (before after : 
   pub record EndedLate (error : ServeError) : Type 0 where
     pub pieces : List Bytes
     pub last : Bytes
+    -- These pieces were read, and nothing else.
     pub were_read : WereRead input input' (pieces ++ last ∷ []) []
     pub done : List FtpEvent
+    -- The run over them failed after all replies to the events `done`.
     pub failed : RunFailed limit law before (concat pieces ++ last) after error done
+    -- Among these are all events of the pieces before the last.
     pub late : Begins done (events limit (concat pieces))
+    -- No read failed.
     pub no_read_failed : input'.failures ≡ input.failures
 
   -- There was no memory for the last piece, and all lines of those before it were answered.
   pub record NoRoomForPiece : Type 0 where
     pub pieces : List Bytes
     pub last : Bytes
+    -- These pieces were read, and nothing else.
     pub were_read : WereRead input input' (pieces ++ last ∷ []) []
     pub answered : AnsweredPieces pieces
+    -- No read failed.
     pub no_read_failed : input'.failures ≡ input.failures
 
   -- The last read failed, and all lines of what was read were answered.
   pub record ReadFailed : Type 0 where
     pub pieces : List Bytes
+    -- These pieces were read, and nothing else.
     pub were_read : WereRead input input' pieces []
     pub answered : AnsweredPieces pieces
+    -- One read failed.
     pub read_failed : input'.failures ≡ input.failures + 1
 
   -- There were too many reads, and all lines of what was read were answered.
   pub record ReadTooOften : Type 0 where
     pub pieces : List Bytes
+    -- These pieces were read, and nothing else.
     pub were_read : WereRead input input' pieces []
     pub answered : AnsweredPieces pieces
+    -- They have at least 2^64 - 1 bytes.
     pub many : 2 ^ 64 - 1 ≤ length (concat pieces)
+    -- No read failed.
     pub no_read_failed : input'.failures ≡ input.failures
 
   -- which of them an error means
@@ -145,10 +165,13 @@ pub record AreReadBack (limit : Option ℕ) {S : Type 0} (law : SessionLaw S) (s
 pub record ServesKnown (limit : Option ℕ) {S : Type 0} (law : SessionLaw S)
     (before after : Snapshot S)
     (remaining : Option Bytes) (served : Served) (input : Bytes) : Type 0 where
+  -- The bytes that were written, where they are known, grew by the replies to the lines of the
+  -- whole input, up to the session's end. So the handler's last state and `done` follow from it.
   pub written : Appends before.output.written after.output.written
       (text_for limit law before.state input)
   pub state : after.state ≡ last_state law before.state (run_for limit law before.state input)
   pub done : served.done ≡ ends_for limit law before.state input
+  -- As many bytes were scanned as come up to the session's end, and at most 31 more.
   pub tested : AreScanned served.tests (length input)
       (length (after_end limit law before.state input))
   -- These bytes were read, and the reader has yet to give the others: none, where the handler
@@ -163,6 +186,7 @@ pub record ServesKnown (limit : Option ℕ) {S : Type 0} (law : SessionLaw S)
   -- Where the handler ended the session and no byte is left, they are all that come after its end.
   pub not_read : served.done ≡ true → served.left ≡ 0
       → after_end limit law before.state input ≡ rest
+  -- A client reads exactly the replies in their bytes, where each of them is plain.
   pub read_back : AllByRecursion IsPlain
       (replies law before.state (run_for limit law before.state input))
       → ReadsBack (text_for limit law before.state input)

@@ -31,7 +31,7 @@ pub enum ClientLine {
 /// What is known of the first line of the pending bytes.
 #[derive(Clone, Copy)]
 pub(crate) enum First {
-    /// Nothing: it was not looked for, or no line is complete.
+    /// Nothing: no search was made, or no line is complete.
     Unknown,
     /// It has so many bytes.
     Line(usize),
@@ -78,6 +78,7 @@ impl EventDecoder {
     /// A decoder that was pushed nothing. A line may have any length, and all its bytes are kept
     /// until its line feed comes: for input that is not trusted, set a limit.
     pub fn new(alloc: Global) -> EventDecoder
+        // No byte is pending or scanned, and there is no limit.
         ensures { result ≡ no_bytes None }
     {
         EventDecoder::limited(alloc, None)
@@ -87,7 +88,9 @@ impl EventDecoder {
     /// is one event, a refusal with `LineTooLong`, and none of its bytes are kept once they are too
     /// many (RFC 959 names no limit).
     pub fn with_limit(alloc: Global, limit: usize) -> EventDecoder
+        // The limit is at least 1.
         requires { 1 ≤ limit }
+        // No byte is pending or scanned, and the limit is this one.
         ensures { result ≡ no_bytes (Some limit) }
     {
         EventDecoder::limited(alloc, Some(limit))
@@ -112,6 +115,8 @@ impl EventDecoder {
     /// long are not among them, once they were dropped. Where `next_event` has returned `None`,
     /// they are an incomplete line.
     pub fn pending(&self) -> &[u8]
+        // Exactly the pending bytes that are kept: not those of a line that is too long, once
+        // dropped.
         ensures { result.now ≡ kept_bytes self.now }
     {
         self.buffer.pending()
@@ -121,6 +126,8 @@ impl EventDecoder {
     /// last call of `next_event` returned. They are empty where the line is too long, where that
     /// call returned no event, and after `push`, `find_line` or `clear`.
     pub fn line(&self) -> &[u8]
+        // The line that was taken last, where no call has changed the decoder since; empty where it
+        // is too long.
         ensures { result.now ≡ self.now.line }
     {
         let line_start = self.buffer.start - self.line;
@@ -131,6 +138,7 @@ impl EventDecoder {
     /// How many bytes are pending, with those of a line that is too long, or `u64::MAX` where there
     /// are more.
     pub fn left(&self) -> u64
+        // The number of the pending bytes, dropped ones counted, or 2^64 - 1 where there are more.
         ensures { result ≡ saturating_u64 (length self.now.bytes) }
     {
         let kept = self.buffer.pending().len();
@@ -139,6 +147,7 @@ impl EventDecoder {
 
     /// How many bytes were compared with a line feed. Only contracts see it.
     pub fn tests(&self) -> Count
+        // The number of bytes compared so far.
         ensures { result ≡ self.now.scanned }
     {
         self.finder.tests()
@@ -146,6 +155,7 @@ impl EventDecoder {
 
     /// The most bytes that its buffer has held. Only contracts see it.
     pub fn held(&self) -> Count
+        // The most bytes that the buffer has held so far.
         ensures { result ≡ self.now.held }
     {
         self.held.same()
@@ -155,9 +165,14 @@ impl EventDecoder {
     /// the buffer would hold more bytes than it ever did, and never for an empty piece.
     #[inline(always)]
     pub fn push(&mut self, piece: &[u8]) -> Result<(), AllocError>
+        // At `Ok` the piece comes after the pending bytes, and the buffer holds at most twice the
+        // pending bytes that are kept.
         ensures ok { OnOk result (self.new ≡ pushed self.old piece.now) }
+        // At an error nothing changes.
         ensures err { OnErr result (self.new ≡ self.old) }
+        // An error comes only for a piece that is not empty.
         ensures some { OnErr result (¬ (piece.now ≡ [])) }
+        // It is out of memory only where the buffer would hold more bytes than it ever did.
         ensures memory { OnErr result (self.old.held < self.old.buffered + length piece.now) }
     {
         let most = self.buffer.bytes.len() + piece.len();
@@ -175,12 +190,21 @@ impl EventDecoder {
     /// piece.
     #[inline(always)]
     pub fn find_line(&mut self) -> Option<ClientLine>
+        // `Complete` or `TooLong`, as the first line of the pending bytes is; `None` exactly where
+        // no line is complete.
         ensures line { result ≡ first_client_line self.old.limit (lines_of self.old.bytes) }
+        // The line is found, and stays pending. Where none is complete, the buffer holds only the
+        // incomplete line, or nothing of one that is too long.
         ensures found { self.new ≡ found_as self.old result self.new.scanned }
+        // No byte is scanned twice: the scanned bytes and those that are not yet stay the same in
+        // sum.
         ensures scanned { self.new.scanned + self.new.unscanned ≡ self.old.scanned + self.old.unscanned }
+        // Where a line is found, at most 31 bytes after it are scanned.
         ensures ahead { IfSome result (λ _. IsSeenAhead self.new.unscanned
             (length (after_front_line self.new.bytes))) }
+        // The count of scanned bytes never falls.
         ensures never_fewer { self.old.scanned ≤ self.new.scanned }
+        // The buffer holds no more bytes than before.
         ensures buffered { self.new.buffered ≤ self.old.buffered }
     {
         if !self.is_found() {
@@ -193,7 +217,9 @@ impl EventDecoder {
     /// Whether the first line was found, and is not taken yet.
     #[inline(always)]
     pub fn is_found(&self) -> bool
+        // True exactly where the first line was found, and is not taken yet.
         ensures found { result ≡ self.now.found }
+        // Where it is true, the pending bytes begin with a complete line.
         ensures line { IsTrue result → IsLine (front_line self.now.bytes) }
     {
         match self.first {
@@ -253,6 +279,8 @@ impl EventDecoder {
     /// where it is too long, and where none was found.
     #[inline(always)]
     pub fn found_line(&self) -> &[u8]
+        // The line that was found and is not taken yet; empty where there is none, or it is too
+        // long.
         ensures { result.now ≡ line_in self.now }
     {
         match self.first {
@@ -266,9 +294,12 @@ impl EventDecoder {
     /// out of memory, but not for a line that is too long, or whose command takes no value.
     #[inline(always)]
     pub fn found_event(&self) -> Result<Event, AllocError>
+        // A line was found, and is not taken yet.
         requires { IsTrue self.now.found }
+        // At `Ok` it is the event of that line, under the limit.
         ensures ok { IfOk result (λ event.
             event_meant event ≡ event_for self.now.limit (front_line self.now.bytes)) }
+        // It is out of memory only where that line is within the limit and may take memory.
         ensures err { OnErr result (MayRunOut self.now.limit self.now.bytes) }
     {
         match self.first {
@@ -281,7 +312,10 @@ impl EventDecoder {
     /// Takes the line that was found: `line` returns its bytes.
     #[inline(always)]
     pub fn take_line(&mut self)
+        // A line was found, and is not taken yet.
         requires { IsTrue self.old.found }
+        // That line is taken, and no other byte; `line` then returns it, or nothing where it is too
+        // long.
         ensures { self.new ≡ without_line self.old }
     {
         match self.first {
@@ -305,17 +339,28 @@ impl EventDecoder {
     // inlined, the event is made in its caller; else its 136 bytes move three times
     #[inline(always)]
     pub fn next_event(&mut self) -> Result<Option<Event>, AllocError>
+        // The first line is taken and its event returned, or `None` only where no line is complete.
+        // Out of memory, the line stays pending.
         ensures takes_next { TakesNext self.old result self.new }
+        // `line` then returns the line of the event: nothing where it is too long, or no event was
+        // returned.
         ensures line { self.new.line ≡ line_after self.old result self.new }
+        // Where no line is complete, the buffer holds only the bytes that are kept; else it holds
+        // as many as before.
         ensures buffered { self.new.buffered ≡ buffered_after self.old result self.new }
+        // The limit stays.
         ensures limit { self.new.limit ≡ self.old.limit }
+        // The most that the buffer has held stays.
         ensures held { self.new.held ≡ self.old.held }
+        // At `Ok` no line is found that is not taken yet.
         ensures found { OnOk result (self.new.found ≡ false) }
+        // Out of memory, the line is found, and not taken.
         ensures stays_found { OnErr result (self.new.found ≡ true) }
-        // no byte is scanned twice, also where the line stays
+        // No byte is scanned twice, also where the line stays pending.
         ensures scanned { self.new.scanned + self.new.unscanned ≡ self.old.scanned + self.old.unscanned }
-        // out of memory is returned only for a complete line that may take some
+        // Out of memory comes only for a complete line within the limit that may take memory.
         ensures may_run_out { OnErr result (MayRunOut self.old.limit self.old.bytes) }
+        // The count of scanned bytes never falls.
         ensures never_fewer { self.old.scanned ≤ self.new.scanned }
     {
         let Some(_) = self.find_line() else {
@@ -329,7 +374,9 @@ impl EventDecoder {
     /// Drops all pending bytes, as a server does where the session ends, or before TLS begins: no
     /// later event comes of them. They are not scanned any more.
     pub fn clear(&mut self)
+        // No byte is pending or held, and no line is found; the limit and the counts stay.
         ensures cleared { self.new ≡ cleared self.old }
+        // A limit is at least 1.
         ensures limit { IfSome self.new.limit (λ limit. 1 ≤ limit) }
     {
         self.finder.restart();

@@ -160,6 +160,7 @@ impl Engine {
     /// An engine that was fed nothing. A line may have any length, and all its bytes are kept until
     /// its line feed comes: for input that is not trusted, set a limit.
     pub fn new(alloc: Global) -> Engine
+        // It was fed nothing, and has no limit.
         ensures { result ≡ fresh None }
     {
         Engine::limited(alloc, None)
@@ -169,7 +170,9 @@ impl Engine {
     /// one event, a refusal with `LineTooLong`, and none of its bytes are kept once they are too
     /// many (RFC 959 names no limit).
     pub fn with_limit(alloc: Global, limit: usize) -> Engine
+        // The limit is at least 1.
         requires { 1 ≤ limit }
+        // It was fed nothing, and has this limit.
         ensures { result ≡ fresh (Some limit) }
     {
         Engine::limited(alloc, Some(limit))
@@ -192,6 +195,7 @@ impl Engine {
     /// returned `Ok`: after the last line feed, or, once the run has ended, after the line that
     /// ended it; or `u64::MAX` where there are more.
     pub fn left(&self) -> u64
+        // The number of bytes after the last line that was taken, as the calls of `feed` left it.
         ensures { result ≡ self.now.left }
     {
         self.left
@@ -200,6 +204,7 @@ impl Engine {
     /// Whether the handler has ended the session: from then on no byte is read as a line. An engine
     /// that failed isn't finished.
     pub fn finished(&self) -> bool
+        // True exactly where the handler has ended the session.
         ensures { result ≡ self.now.finished }
     {
         matches!(self.phase, Phase::Finished)
@@ -207,6 +212,7 @@ impl Engine {
 
     /// How many bytes were compared with a line feed. Only contracts see it.
     pub fn tests(&self) -> Count
+        // The number of bytes compared so far.
         ensures { result ≡ self.now.scanned }
     {
         self.decoder.tests()
@@ -214,6 +220,7 @@ impl Engine {
 
     /// The most bytes that its buffer has held. Only contracts see it.
     pub fn held(&self) -> Count
+        // The most bytes that the buffer has held so far.
         ensures { result ≡ self.now.held }
     {
         self.decoder.held()
@@ -239,25 +246,33 @@ impl Engine {
         handler: &mut H,
         output: &mut K,
     ) -> Result<(), ServeError>
-        // What was answered, written and flushed at each answer of an engine that runs.
+        // What the handler has heard only grows.
         ensures heard { Begins (H.heard handler.new) (H.heard handler.old) }
+        // A running engine answers the lines of the pending bytes and the piece, up to the
+        // session's end. At an error the replies before it are written and flushed.
         ensures outcome { IsRunning self.old → (heard : List H.Heard)
             → Begins heard (H.heard handler.new) → PieceOutcome self.old.limit (H.law heard)
             (snapshot_with H.state H.failures K.state handler.old output.old)
             (bytes_with self.old piece.now) (LacksPieceRoom self.old piece.now)
             (snapshot_with H.state H.failures K.state handler.new output.new) result }
+        // `Write` and `WriteZero` come only over an output that may write a beginning of a reply,
+        // and fail.
         ensures cuts { OnWrite result K.cuts }
-        // What such an engine is then; a limit bounds what the buffer has held.
+        // At `Ok` only the incomplete line is pending, or nothing once the session has ended; at
+        // most 31 bytes after its end were scanned. Only an error makes the engine a failed one.
         ensures fed { IsRunning self.old → MatchResult result
             (λ _. (heard : List H.Heard) → Begins heard (H.heard handler.new)
             → IsFed (H.law heard) (H.state handler.old) self.old piece.now self.new)
             (λ _. FailedAfter self.old piece.now self.new) }
+        // With a limit, the buffer has held at most what it had held before, or the limit and the
+        // piece.
         ensures bound { IfSome self.old.limit (λ limit.
             self.new.held ≤ max self.old.held (limit + length piece.now)) }
-        // One whose run has ended counts the piece, and one that failed does nothing.
+        // A finished engine counts the piece at `Ok`, and does nothing else.
         ensures over { self.old.finished ≡ true → IsTrue (is_ok result)
             × (handler.new ≡ handler.old) × (output.new ≡ output.old)
             × (self.new ≡ more_left self.old piece.now) }
+        // A failed engine returns `Stopped`, and does nothing.
         ensures stopped { self.old.failed ≡ true → IsErrOf result ServeError.Stopped
             × (handler.new ≡ handler.old) × (output.new ≡ output.old) × (self.new ≡ self.old) }
     {

@@ -20,6 +20,7 @@ pub enum Event {
 impl Event {
     /// Whether it is QUIT, with which a session ends (RFC 959, section 4.1.1).
     pub fn is_quit(&self) -> bool
+        // True exactly for the command QUIT.
         ensures { result ≡ is_quit (event_meant self.now) }
     {
         matches!(self, Event::Command(Command::Quit))

@@ -29,18 +29,24 @@ pub trait Handler {
     /// Returns the reply to an event. An error has to be one that the law's `may_fail` allows: it
     /// ends the connection, and the handler's state is unspecified after it.
     fn handle(&mut self, alloc: Global, event: Event) -> Result<Reply, ControlChanError>
+        // At `Ok` it is the reply that the law gives to the event in this state.
         ensures says { IfOk result (λ reply.
             reply_of reply ≡ law.says (state self.old) (event_meant event)) }
+        // At `Ok` the state is the one that the law gives after the event.
         ensures next { OnOk result
             (state self.new ≡ law.next (state self.old) (event_meant event)) }
+        // At `Ok` no failure is counted.
         ensures quiet { OnOk result (failures self.new ≡ failures self.old) }
+        // An error is one that the law allows at the event in this state.
         ensures may_fail { IfErr result (λ error.
             law.may_fail (state self.old) (event_meant event) (fault_of error)) }
+        // An error is counted as one failure.
         ensures counted { OnErr result (failures self.new ≡ failures self.old + 1) };
 
     /// Whether the session ends here: it is asked after each event, once its reply is sent, and
-    /// never before the first. Where it says `true`, no later byte is read as a line. A handler
-    /// that never ends a session says `false`.
+    /// never before the first. Where it returns `true`, no later byte is read as a line. A
+    /// handler that never ends a session returns `false`.
     fn done(&self) -> bool
+        // True exactly where the law is done in this state.
         ensures { result ≡ law.done (state self.now) };
 }

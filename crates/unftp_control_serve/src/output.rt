@@ -20,9 +20,13 @@ pub struct Output<W> {
 impl<W: Write> Output<W> {
     /// This writer, which has not failed so far.
     pub fn new(writer: W) -> Output<W>
+        // It writes to this writer.
         ensures writer { result.writer ≡ writer }
+        // No write has taken a byte so far.
         ensures taken { result.taken ≡ [] }
+        // No byte is unflushed.
         ensures unflushed { result.unflushed ≡ 0 }
+        // No write and no flush has failed so far.
         ensures failures { result.failures ≡ 0 }
     {
         Output {
@@ -36,6 +40,7 @@ impl<W: Write> Output<W> {
     /// The writer, as the last call left it: bytes that were not flushed are still not. What is
     /// written to it then is in no record.
     pub fn into_inner(self) -> W
+        // Exactly the writer of the output.
         ensures { result ≡ self.writer }
     {
         let Output {

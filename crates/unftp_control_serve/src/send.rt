@@ -25,9 +25,14 @@ pub trait Sink {
     /// `WriteZero` a beginning of them may be written; at `OutOfMemory`, which comes only where it
     /// lacks room for them, none is. It returns no other error.
     fn send(&mut self, bytes: &[u8]) -> Result<(), ServeError>
+        // At `Ok` exactly the bytes are written and flushed, at `Write` and `WriteZero` a beginning
+        // of them, and at `OutOfMemory` none. No other error comes.
         ensures sends { Sends result bytes.now (state self.old) (state self.new) }
+        // `Write` and `WriteZero` come only where it may write a beginning of a reply, and fail.
         ensures cuts { OnWrite result cuts }
+        // It is out of memory only where it lacks room for the bytes.
         ensures memory { OnMemory result (lacks self.old bytes.now) }
+        // Where there are no bytes, it returns `Ok`.
         ensures nothing { bytes.now ≡ [] → IsTrue (is_ok result) };
 }
 

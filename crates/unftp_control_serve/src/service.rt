@@ -50,23 +50,26 @@ pub fn serve<R: Read, W: Write, H: Session>(
     writer: &mut Output<W>,
     handler: &mut H,
 ) -> Result<Served, ServeError>
-    // At Ok, of any reader and any writer: what was read and written, in which state the handler
-    // is, and what was scanned.
+    // At `Ok`, over any streams, the writes took exactly the replies to the lines that the reads
+    // gave, up to the session's end; they are flushed, and the handler is in its last state.
     ensures serves { IfOk result (Serves None (H.law (H.heard handler.new))
         (snapshot_of H.state H.failures W.contents handler.old writer.old)
         (snapshot_of H.state H.failures W.contents handler.new writer.new)
         (input_state_of R.remaining reader.old)
         (input_state_of R.remaining reader.new)) }
-    // A client reads the replies, and nothing else, where each of them is plain.
+    // At `Ok` a client reads exactly the replies in what was written, where each of them is plain.
     ensures read_back { OnOk result (AreReadBack None (H.law (H.heard handler.new))
         (H.state handler.old)
         (input_state_of R.remaining reader.old) (input_state_of R.remaining reader.new)) }
-    // In which pieces it was read, and what was held; and what is so at each error.
+    // At `Ok` the input came in pieces of at most 4,096 bytes, and the last read gave the session's
+    // end, or nothing at the reader's end. No read, write, flush or handler failed.
     ensures ok { IfOk result (ServedInPieces None (H.law (H.heard handler.new))
         (snapshot_of H.state H.failures W.contents handler.old writer.old)
         (snapshot_of H.state H.failures W.contents handler.new writer.new)
         (input_state_of R.remaining reader.old)
         (input_state_of R.remaining reader.new)) }
+    // At an error the replies to the lines before, and the first ones to the next, are written and
+    // flushed. Only a failure that the error names is counted, and once.
     ensures err { IfErr result (ServeEnded None (H.law (H.heard handler.new))
         (snapshot_of H.state H.failures W.contents handler.old writer.old)
         (snapshot_of H.state H.failures W.contents handler.new writer.new)
@@ -89,23 +92,29 @@ pub fn serve_with_limit<R: Read, W: Write, H: Session>(
     writer: &mut Output<W>,
     handler: &mut H,
 ) -> Result<Served, ServeError>
+    // The limit is at least 1.
     requires { 1 ≤ limit }
-    // What `serve` says, under the limit.
+    // At `Ok` it is as `serve` has it, where each line of more than `limit` bytes is one refusal.
     ensures serves { IfOk result (Serves (Some limit) (H.law (H.heard handler.new))
         (snapshot_of H.state H.failures W.contents handler.old writer.old)
         (snapshot_of H.state H.failures W.contents handler.new writer.new)
         (input_state_of R.remaining reader.old)
         (input_state_of R.remaining reader.new)) }
+    // At `Ok` a client reads exactly the replies in what was written, where each of them is plain.
     ensures read_back { OnOk result (AreReadBack (Some limit) (H.law (H.heard handler.new))
         (H.state handler.old)
         (input_state_of R.remaining reader.old) (input_state_of R.remaining reader.new)) }
     // At Ok the buffer has held at most the limit and one piece.
     ensures bound { IfOk result (λ served. served.held ≤ limit + 4096) }
+    // At `Ok` the input came in pieces of at most 4,096 bytes, and the last read gave the session's
+    // end, or nothing at the reader's end. No read, write, flush or handler failed.
     ensures ok { IfOk result (ServedInPieces (Some limit) (H.law (H.heard handler.new))
         (snapshot_of H.state H.failures W.contents handler.old writer.old)
         (snapshot_of H.state H.failures W.contents handler.new writer.new)
         (input_state_of R.remaining reader.old)
         (input_state_of R.remaining reader.new)) }
+    // At an error the replies to the lines before, and the first ones to the next, are written and
+    // flushed. Only a failure that the error names is counted, and once.
     ensures err { IfErr result (ServeEnded (Some limit) (H.law (H.heard handler.new))
         (snapshot_of H.state H.failures W.contents handler.old writer.old)
         (snapshot_of H.state H.failures W.contents handler.new writer.new)
@@ -155,7 +164,7 @@ fn serve_lines<R: Read, W: Write, H: Session>(
     Err(ServeError::TooManyReads)
 }
 
-/// What an engine says of the service.
+/// What an engine reports of the service.
 fn served_by(engine: &Engine) -> Served
     ensures { Reports result engine.now }
 {
@@ -170,6 +179,8 @@ fn served_by(engine: &Engine) -> Served
 /// What follows of `Serves` where the bytes of the whole input are known, read or not, as those of
 /// a slice are.
 pub fn known_input_is_served<H: Session>()
+    // Where the whole input is known, the output, the handler's last state and, but for up to 31,
+    // the scanned bytes follow from it, read or not. Bytes are unread only after the session's end.
     ensures { (heard : List H.Heard) (limit : Option ℕ) (before after : Snapshot H.State)
         (input input_after : InputState) (served : Report)
         → Serves limit (H.law heard) before after input input_after served

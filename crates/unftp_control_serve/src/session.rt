@@ -37,7 +37,10 @@ pub trait Session {
     /// Returns the first reply to an event. An error has to be one that the law's `may_fail`
     /// allows: it ends the connection, and the state is unspecified after it.
     fn first(&mut self, alloc: Global, event: Event) -> Result<Reply, ControlChanError>
+        // What it has heard only grows.
         ensures heard { Begins (heard self.new) (heard self.old) }
+        // Whatever is heard later, the reply and the state after it are those that the law gives
+        // for the event, and an error is one that it allows.
         ensures answers { (all : List Heard) → Begins all (heard self.new)
             → FirstAnswer (law all) (state self.old) (state self.new) (failures self.old)
             (failures self.new) (event_meant event) result };
@@ -46,7 +49,10 @@ pub trait Session {
     /// that is written and flushed, until there is none: a transfer happens here. An error has to
     /// be one that the law's `may_break` allows, and ends the connection too.
     fn further(&mut self, alloc: Global) -> Result<Option<Reply>, ControlChanError>
+        // What it has heard only grows.
         ensures heard { Begins (heard self.new) (heard self.old) }
+        // Whatever is heard later, it is the next reply by the law, with a smaller number left
+        // after it, or none; an error is one that the law allows.
         ensures answers { (all : List Heard) → Begins all (heard self.new)
             → FurtherAnswer (law all) (state self.old) (state self.new) (failures self.old)
             (failures self.new) left result };
@@ -54,6 +60,7 @@ pub trait Session {
     /// Whether the session ends here: it is asked after each event, once all its replies are sent,
     /// and never before the first.
     fn done(&self) -> bool
+        // Whatever is heard later, true exactly where the law is done in this state.
         ensures { (all : List Heard) → result ≡ (law all).done (state self.now) };
 }
 
