@@ -67,7 +67,7 @@ module _ (limit : Option ℕ) {S : Type 0} (law : SessionLaw S) (before after : 
     -- As many bytes were scanned as came up to the session's end, and at most 31 more.
     pub scanned : AreScanned served.tests (length (concat pieces))
         (length (after_end limit law before.state (concat pieces)))
-    -- The buffer held at most an incomplete line and the piece after it.
+    -- `held` is the most bytes of an incomplete line and the piece after it.
     pub held : served.held ≡ most_held limit [] pieces
     -- No read failed.
     pub no_read_failed : input'.failures ≡ input.failures

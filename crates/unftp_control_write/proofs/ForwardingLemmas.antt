@@ -78,7 +78,7 @@ typed_body (Site name arguments) canonical = absurd (false≢true (sym canonical
 typed_body (Other name arguments) canonical = absurd (false≢true (sym canonical))
 typed_body command canonical = refl
 
--- the command that is told of
+-- the command of which this is said
 told : (answer : Outcome) (parts : Said) → MeansCommand answer parts
     → (command : FtpCommand) × (answer ≡ Ok command) × (said command ≡ parts)
 told (Ok command) parts tells = (command, refl, tells)

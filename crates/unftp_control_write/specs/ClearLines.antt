@@ -1,6 +1,6 @@
 -- Lines that a proxy lets a server see. Servers differ in how they read a bare CR, a NUL, Telnet's
 -- bytes (RFC 854) or a tab after the verb. Some send no reply to a line without a verb, with one of
--- these in it, or that ends by LF alone: each later reply would be given to another line. A clear
+-- these in it, or that ends by only LF: each later reply would be given to another line. A clear
 -- line is none of these. That all servers read it alike isn't said: four don't with `TYPE  I`, NOOP
 -- with spaces or 5,000 bytes after it, `SIZE ~/a`, and `MDTM 20010203040506 a`.
 use Rattle.std.specs.Prelude.{ℕ, ◌-◌, Bool, not, ◌==◌, ◌&&◌, ◌||◌, bytes_eq, drop, length, take}

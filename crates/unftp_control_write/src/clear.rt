@@ -18,6 +18,8 @@ const IAC: u8 = 255;
 /// `TYPE  I` with two spaces, NOOP with spaces or 5,000 bytes after it, `SIZE ~/a`, and `MDTM
 /// 20010203040506 a`, by which vsftpd sets the time of a file.
 pub fn is_clear(line: &[u8]) -> bool
+    // True exactly where the verb is one or more letters and digits of ASCII, and no CR, LF, NUL or
+    // byte 255 comes before the CR LF at the end.
     ensures { result ≡ is_clear line.now }
 {
     has_clear_verb(line) && is_plain_line(line)

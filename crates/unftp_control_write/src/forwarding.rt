@@ -45,10 +45,17 @@ pub enum ForwardError {
 /// returned only where `buf` has no room for the line and can't grow, which it does once at most.
 /// At each error `buf` is as it was.
 pub fn forward(line: &[u8], buf: &mut Vec<u8>) -> Result<(), ForwardError>
+    // At `Ok` exactly the forwarded line is appended. It has one line feed, its last byte, and
+    // means the same command as the line.
     ensures ok { OnOk result (IsForwarded line.now buf.old.items buf.new.items) }
+    // At an error the buffer holds what it held.
     ensures err { OnErr result (buf.new.items ≡ buf.old.items) }
+    // `NotALine` comes only for bytes that are not one line, `Refused` only with the line's own
+    // refusal, and `OutOfMemory` only for a command.
     ensures why { IfErr result (λ error. IsForwardError line.now error) }
+    // It is out of memory only where the buffer lacks room for the forwarded line.
     ensures memory { result ≡ Err ForwardError.OutOfMemory → LacksRoomFor line.now buf.old }
+    // `NotALine` comes wherever the bytes are not one line.
     ensures not_a_line { ¬ IsLine line.now → result ≡ Err ForwardError.NotALine }
 {
     let Some(text) = without_end(line) else {
@@ -84,6 +91,7 @@ fn append_or_nothing(text: &[u8], parts: Parts<'_>, buf: &mut Vec<u8>) -> Result
 /// The line without its end, a line feed and a carriage return before it; none where the bytes are
 /// not one line.
 pub fn without_end(line: &[u8]) -> Option<&[u8]>
+    // `None` exactly where the bytes are not one line; else the bytes before its LF or CR LF.
     ensures { MatchOption result (¬ IsLine line.now)
         (λ text. IsLine line.now × (text.now ≡ before_end line.now)) }
 {
@@ -96,6 +104,7 @@ pub fn without_end(line: &[u8]) -> Option<&[u8]>
 
 /// Whether the bytes are one line: one line feed, their last byte (RFC 959, section 5.3).
 pub fn is_line(bytes: &[u8]) -> bool
+    // True exactly for bytes with one line feed, their last byte.
     ensures { IsTrue result ↔ IsLine bytes.now }
 {
     without_end(bytes).is_some()

@@ -41,16 +41,24 @@ pub enum WriteCommandError {
 /// the buffer has no room for the line and can't grow, which it does once at most. `buf` is then as
 /// it was.
 pub fn write_command(command: &Command, buf: &mut Vec<u8>) -> Result<(), WriteCommandError>
+    // At `Ok` exactly the canonical line of the command is appended.
     ensures ok { OnOk result
         (buf.new.items ≡ buf.old.items ++ canonical_line (command_of command.now)) }
+    // At `Ok` this line has one line feed, its last byte.
     ensures line { OnOk result (IsLine (canonical_line (command_of command.now))) }
+    // At `Ok` this line means the command.
     ensures read_back { OnOk result
         (outcome (canonical_line (command_of command.now)) ≡ Ok (command_of command.now)) }
+    // At an error the buffer holds what it held.
     ensures err { OnErr result (buf.new.items ≡ buf.old.items) }
+    // Where the command has a line, an error is out of memory, and comes only where the buffer
+    // lacks room for the canonical line.
     ensures has_line { HasLine (command_of command.now)
         → IfErr result (λ error. (error ≡ WriteCommandError.OutOfMemory)
         × LacksRoom buf.old (canonical_line (command_of command.now))) }
+    // Out of memory comes only where the command has a line.
     ensures memory { result ≡ Err WriteCommandError.OutOfMemory → HasLine (command_of command.now) }
+    // `NoLine` comes wherever the command has no line.
     ensures no_line { ¬ HasLine (command_of command.now) → result ≡ Err WriteCommandError.NoLine }
 {
     let mut digits = Buffer::new();
