@@ -1,4 +1,4 @@
-//! Callers of the library: the snippets of docs/RATTLE.md, which are proved here.
+//! Callers of the library, which are proved here: many are snippets of docs/RATTLE.md.
 #![tactic(auto)]
 
 pub mod client;

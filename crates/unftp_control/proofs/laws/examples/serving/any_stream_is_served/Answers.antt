@@ -10,7 +10,6 @@ use Rattle.unftp_control_serve.specs.Writing.{IsFlushed}
 use Rattle.unftp_control.specs.Snapshots.{counter}
 use Rattle.unftp_control.proofs.laws.examples.serving.any_stream_is_served.Goals as goal
 
-
 two_nothings : (pieces : List Bytes) (done : Bool)
     → AllByRecursion (λ piece. (0 < length piece) × (length piece ≤ 4096)) pieces
     → ¬ (4 ∷ 0 ∷ 0 ∷ [] ≡ map length pieces ++ (if done then [] else 0 ∷ []))
@@ -35,13 +34,14 @@ returns-clause-whole c = λ after input served v is.
     read v.tested in
     let flushed : after.output.unflushed ≤ 0 =
     subst (λ read. IsFlushed (text_for None counter 3 read) [] 1 after.output.unflushed)
-    read v.flushed in
-    (v.written.taken ∙ ap (λ read. codes "x" ++ text_for None counter 3 read) read,
-    omega (arith, flushed),
-    v.state ∙ ap (λ read. last_state counter 3 (run_for None counter 3 read)) read,
-    v.done ∙ ap (ends_for None counter 3) read,
-    v.left ∙ ap (λ read. saturating_u64 (length (unread None counter 3 read))) read,
-    omega (arith, scanned.once, scanned.each, scanned.few))
+    read v.flushed in (
+      v.written.taken ∙ ap (λ read. codes "x" ++ text_for None counter 3 read) read,
+      omega (arith, flushed),
+      v.state ∙ ap (λ read. last_state counter 3 (run_for None counter 3 read)) read,
+      v.done ∙ ap (ends_for None counter 3) read,
+      v.left ∙ ap (λ read. saturating_u64 (length (unread None counter 3 read))) read,
+      omega (arith, scanned.once, scanned.each, scanned.few),
+    )
 
 pub returns-clause-not_written : goal.returns-clause-not_written
 unfolding digits
