@@ -2,6 +2,7 @@ use crate::command::{Command, Keep};
 use crate::error::Error;
 use crate::event::Event;
 use crate::lines::{Lines, LINE_LIMIT};
+use crate::received::ReceivedReply;
 use crate::reply::Reply;
 use bytes::{Buf, BytesMut};
 use std::error;
@@ -148,6 +149,8 @@ pub enum CodecError {
         /// long and its bytes were dropped.
         left: usize,
     },
+    /// The server of an [`FtpProxy`](crate::FtpProxy) sent a reply that no line was owed.
+    Unexpected(ReceivedReply<'static>),
 }
 
 impl Display for CodecError {
@@ -158,6 +161,9 @@ impl Display for CodecError {
             CodecError::Incomplete { left } => {
                 write!(f, "the input ended within a line or a reply, after {left} bytes of it")
             }
+            CodecError::Unexpected(reply) => {
+                write!(f, "a reply that was not asked for: {reply}")
+            }
         }
     }
 }
@@ -167,7 +173,7 @@ impl error::Error for CodecError {
         match self {
             CodecError::Io(error) => error::Error::source(error),
             CodecError::Control(error) => error::Error::source(error),
-            CodecError::Incomplete { .. } => None,
+            CodecError::Incomplete { .. } | CodecError::Unexpected(_) => None,
         }
     }
 }

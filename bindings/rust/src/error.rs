@@ -27,6 +27,8 @@ pub enum Error {
     TooManyCommands,
     /// The name of a file has a carriage return or a line feed, so that it is in no line.
     InvalidName,
+    /// A reply is preliminary where a final one is due, or final where another has to follow.
+    OutOfOrder,
 }
 
 impl Error {
@@ -65,6 +67,7 @@ impl Display for Error {
             Error::ReplyTooLong => f.write_str("reply too long"),
             Error::TooManyCommands => f.write_str("too many commands"),
             Error::InvalidName => f.write_str("carriage return or line feed in a name"),
+            Error::OutOfOrder => f.write_str("reply out of order"),
         }
     }
 }

@@ -138,6 +138,10 @@ mod ffi;
 #[cfg(feature = "tokio-util")]
 mod ftp_client;
 #[cfg(feature = "tokio-util")]
+mod ftp_proxy;
+#[cfg(feature = "tokio-util")]
+mod ftp_server;
+#[cfg(feature = "tokio-util")]
 mod line_codec;
 mod lines;
 mod listing;
@@ -175,6 +179,10 @@ pub use error::Error;
 pub use event::{list_path, parameter, Event, Line, Refusal};
 #[cfg(feature = "tokio-util")]
 pub use ftp_client::{Answer, ClientError, FtpClient};
+#[cfg(feature = "tokio-util")]
+pub use ftp_proxy::{ClientLine, FtpProxy, ProxyEvent, ServerReply};
+#[cfg(feature = "tokio-util")]
+pub use ftp_server::{FtpServer, LineRequest, LoginRequest, Request, Transfer};
 #[cfg(feature = "tokio-util")]
 pub use line_codec::{FtpLineCodec, OwnedLine};
 pub use lines::LINE_LIMIT;

@@ -151,6 +151,13 @@ impl Reply {
         self.code
     }
 
+    /// Whether another reply to the same has to follow: its code is from 100 to 199 (RFC 959, section
+    /// 4.2.1).
+    #[cfg(feature = "tokio-util")]
+    pub(crate) fn is_preliminary(&self) -> bool {
+        matches!(self.code.get(), 100..=199)
+    }
+
     /// Its lines, of which there is at least one.
     pub fn lines(&self) -> impl Iterator<Item = &[u8]> + '_ {
         let mut rest = Some(&*self.text);
