@@ -4,10 +4,7 @@
 use std::{env, error::Error, io, time::Duration};
 use tokio::io::copy;
 use tokio::net::{TcpListener, TcpStream};
-use unftp_control::{
-    find_extended_port, Command::*, DataPort, Event, FtpProxy, ProxyEvent, Reply,
-    ReplyCode as Code, To,
-};
+use unftp_control::{find_extended_port, Command::*, DataPort, Event, FtpProxy, ProxyEvent, To};
 
 /// How long either side may take to open a data connection.
 const OPENING: Duration = Duration::from_secs(30);
