@@ -17,6 +17,7 @@ usage: tools/checks/rust_package.py codes              the package's codes of re
        tools/checks/rust_package.py files SERVER       what clients put, list and get over IPv4 and IPv6, and what they may not
        tools/checks/rust_package.py transfer SERVER CLIENT     what this client puts, lists and gets there, and what it says of a refusal
        tools/checks/rust_package.py proxy PROXY SERVER     what clients get through the proxy of the server of files, and what they may not
+       tools/checks/rust_package.py filter PROXY SERVER    lines through the proxy without data connections of the server of files
        tools/checks/rust_package.py speed SERVER [COUNT [CONNECTIONS]]  NOOPs a second
 
 The last line says what was compared; the status is 0 where all is right.
@@ -476,6 +477,7 @@ def check_files(program):
             folder, outside = pathlib.Path(place, "folder"), pathlib.Path(place, "outside")
             (folder / "below").mkdir(parents=True)
             outside.write_bytes(b"outside")
+            (folder / "two\nlines").write_bytes(b"no line has this name")
             with StartedServer([program, folder, f"[{host}]:0" if ":" in host else f"{host}:0"], log) as server:
                 wants_transfers(host, server.port, folder, content)
                 if host == HOST:
@@ -511,6 +513,35 @@ def check_proxy(program, server):
                 codes = [line[:3] for line in receive(connection).splitlines()]
             wants("the order of replies", codes, [b"220", b"502", b"200", b"501", b"331", b"221"])
     return f"{len(content):,} bytes, with {', '.join(['ftplib', *found])}"
+
+
+def check_filter(program, server):
+    """Clients log in through the proxy. It logs each line, and no DELE gets through."""
+    clients = {"curl": talk_by_curl, "lftp": talk_by_lftp}
+    found = [name for name in clients if shutil.which(name)]
+    with tempfile.TemporaryDirectory() as folder, tempfile.TemporaryFile() as passed, tempfile.TemporaryFile() as log:
+        with StartedServer([server, folder, f"{HOST}:0"], passed) as behind, StartedServer([program, f"{HOST}:{behind.port}", f"{HOST}:0"], log) as proxy:
+            for name in found:
+                replies = clients[name](proxy.port)
+                wants(f"the replies to {name}", (replies[0], "230" in replies, replies[-1]), ("220", True, "221"))
+            with ftplib.FTP(timeout=PATIENCE) as client:
+                client.connect(HOST, proxy.port)
+                client.login("anna", "secret")
+                for line in ["DELE new", "dele new", "EPSV", "SITE DELE new", "XRMD new"]:
+                    wants(f"the code of {line}", refused_code(client, line), "502")
+                wants("the directory", client.pwd(), "/")
+                wants("the code of QUIT", client.quit()[:3], "221")
+            with proxy.connect() as connection:
+                connection.sendall(b"DELE new\r\nNOOP\r\nDELE\tnew\r\nNOOP\rDELE new\r\nUSER anna\r\nQUIT\r\n")
+                codes = [line[:3] for line in receive(connection).splitlines()]
+            wants("the order of replies", codes, [b"220", b"502", b"200", b"502", b"501", b"331", b"221"])
+        for file in [passed, log]:
+            file.seek(0)
+        sent, lines = passed.read(), [line.split(b": ", 1)[-1] for line in log.read().splitlines()]
+    wants("whether the server has the lines that are allowed", (b"PASS ***" in sent, b"DELE" in sent), (True, False))
+    wants("the lines of the log", {b"PASS ***", b"DELE new", b"PWD", b"QUIT"} - set(lines), set())
+    wants("whether the log has the password", b"secret" in b"".join(lines), False)
+    return f"{len(lines)} lines, of {', '.join(['ftplib', *found])}"
 
 
 def check_transfer(program, client):
@@ -557,6 +588,7 @@ CHECKS = {
     "files": check_files,
     "transfer": check_transfer,
     "proxy": check_proxy,
+    "filter": check_filter,
     "speed": check_speed,
 }
 
