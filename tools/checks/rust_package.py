@@ -413,17 +413,16 @@ def wants_transfers(host, port, folder, content):
             received = []
             client.retrbinary(f"RETR /{sent}", received.append)
             wants("what is read", b"".join(received), content)
-        lines = []
+        lines, names = [], sorted(os.fsencode(name).decode("latin-1") for name in NAMES)
         client.retrlines("LIST", lines.append)
-        sizes = sorted((line.split()[4], line.split()[-1]) for line in lines)
-        wants("the listing", sizes, sorted((str(len(content)), os.fsencode(name).decode("latin-1")) for name in NAMES))
+        wants("the listing", sorted(line.split()[4::4] for line in lines), [[str(len(content)), name] for name in names])
         for line in ["RETR ../outside", "RETR /../outside", "STOR ../outside", "RETR below/x", "RETR ..", "RETR absent"]:
             wants(f"the code of {line}", refused_code(client, line), "550")
         wants("the code of RETR without a data connection", refused_code(client, "RETR new"), "425")
         if host != HOST:
             wants("the code of PASV", refused_code(client, "PASV"), "425")
         client.set_pasv(False)
-        wants("the names, in active mode", len(client.nlst()), len(NAMES))
+        wants("the names, in active mode", sorted(client.nlst()), names)
         wants("the code of an address of another", refused_code(client, "PORT 192,0,2,7,4,1"), "504")
         wants("the code of QUIT", client.quit()[:3], "221")
 

@@ -182,7 +182,8 @@ where
 
     fn is_done(&self) -> bool {
         let server = self.server.codec();
-        let is_owed = !server.is_greeted() || server.owed() > 0 || self.answer.is_some();
+        // an answer that waits does so for a reply that is owed
+        let is_owed = !server.is_greeted() || server.owed() > 0;
         self.is_over || self.has_client_ended && !is_owed
     }
 

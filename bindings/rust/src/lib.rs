@@ -30,11 +30,13 @@
 //!
 #![cfg_attr(
     feature = "tokio-util",
-    doc = "[`FtpCodec`] does both for tokio, under `Framed`; `examples/server.rs` is a server."
+    doc = "[`FtpCodec`] does both for tokio, under `Framed`; `examples/server.rs` is a server. An \
+           [`FtpServer`] also logs in and transfers, as `examples/files.rs` does."
 )]
 #![cfg_attr(
     not(feature = "tokio-util"),
-    doc = "With the feature `tokio-util`, `FtpCodec` does both for tokio, under `Framed`."
+    doc = "With the feature `tokio-util`, `FtpCodec` does both for tokio, under `Framed`, and an \
+           `FtpServer` also logs in and transfers."
 )]
 //!
 //! For an event that a server doesn't serve, [`Event::usual_reply`] is what it answers. A [`Login`]
@@ -66,7 +68,8 @@
 //! proxy's own client, and [`answer`](Client::answer) says whether the proxy may answer it now.
 #![cfg_attr(
     feature = "tokio-util",
-    doc = "Under tokio a [`ProxyCodec`] sends the client the server's replies as they came."
+    doc = "Under tokio an [`FtpProxy`] keeps the order by these calls, and a [`ProxyCodec`] sends the \
+           client the server's replies as they came."
 )]
 //!
 //! # Data connections

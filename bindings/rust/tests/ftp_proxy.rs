@@ -10,6 +10,7 @@ use unftp_control::{
     CodecError, Command, Error, Event, FtpProxy, ProxyEvent, Reply, ReplyCode, To,
 };
 
+const PATIENCE: Duration = Duration::from_secs(20);
 const MOMENT: Duration = Duration::from_millis(100);
 
 type Proxy = FtpProxy<DuplexStream, DuplexStream>;
@@ -63,7 +64,7 @@ fn slow_server(server: DuplexStream, texts: &'static [&'static str]) -> JoinHand
 
 async fn all(client: &mut DuplexStream) -> io::Result<String> {
     let mut text = String::new();
-    client.read_to_string(&mut text).await?;
+    timeout(PATIENCE, client.read_to_string(&mut text)).await??;
     Ok(text)
 }
 
@@ -202,7 +203,7 @@ async fn what_is_dropped_has_its_end() -> Result<(), CodecError> {
 /// The next event, which is a line or a reply.
 macro_rules! next {
     ($proxy:expr, $kind:ident) => {
-        match $proxy.next().await? {
+        match timeout(PATIENCE, $proxy.next()).await.expect("an event in time")? {
             Some(ProxyEvent::$kind(taken)) => taken,
             other => panic!("{other:?}"),
         }

@@ -12,7 +12,7 @@ use std::task::{Context, Poll};
 use std::time::Duration;
 use tokio::fs::File;
 use tokio::io::{AsyncBufReadExt, AsyncRead, AsyncReadExt, AsyncWrite, AsyncWriteExt};
-use tokio::io::{BufReader, ReadBuf};
+use tokio::io::{BufReader, BufWriter, ReadBuf};
 use tokio::net::{TcpListener, TcpSocket, TcpStream};
 use tokio::task::JoinHandle;
 use tokio::time::timeout;
@@ -21,6 +21,7 @@ use unftp_control::{
     Reply, ReplyCode, Request, Transfer,
 };
 
+const PATIENCE: Duration = Duration::from_secs(20);
 const MOMENT: Duration = Duration::from_millis(100);
 const HOST: IpAddr = IpAddr::V4(Ipv4Addr::LOCALHOST);
 const OTHER_HOST: IpAddr = IpAddr::V4(Ipv4Addr::new(127, 0, 0, 2));
@@ -36,7 +37,7 @@ impl Client {
 
     async fn reply(&mut self) -> io::Result<String> {
         let mut reply = String::new();
-        self.0.read_line(&mut reply).await?;
+        timeout(PATIENCE, self.0.read_line(&mut reply)).await??;
         Ok(reply)
     }
 
@@ -52,7 +53,7 @@ impl Client {
     /// The codes of all replies up to the server's end.
     async fn all_codes(&mut self) -> io::Result<Vec<String>> {
         let mut text = String::new();
-        self.0.read_to_string(&mut text).await?;
+        timeout(PATIENCE, self.0.read_to_string(&mut text)).await??;
         Ok(text.lines().map(|line| line.chars().take(3).collect()).collect())
     }
 
@@ -435,6 +436,26 @@ async fn forty_megabytes_pass_both_ways() -> io::Result<()> {
     assert_eq!(client.codes(1).await?, ["221"]);
     drop(client);
     assert_eq!(ended.await?.expect("no error"), ["40000000 bytes"; 2]);
+    Ok(())
+}
+
+#[tokio::test]
+async fn what_is_stored_is_flushed_before_226() -> Result<(), CodecError> {
+    let (mut client, mut server) = pair().await?;
+    client.send([LOGIN, "EPSV\r\nSTOR a\r\n"].concat()).await?;
+    let Some(Request::Login(login)) = server.next().await? else { panic!("a login") };
+    login.answer(true).await?;
+    let Some(Request::Line(request)) = server.next().await? else { panic!("STOR") };
+    client.codes(3).await?;
+    let port = find_extended_port(client.reply().await?.as_bytes()).expect("a port");
+    let mut data = TcpStream::connect((HOST, port)).await?;
+    data.write_all(b"some").await?;
+    drop(data);
+    let mut stored = Vec::new();
+    let ended = request.receive_data(ready(Ok(BufWriter::new(&mut stored)))).await?;
+    assert!(matches!(ended, Transfer::Complete { bytes: 4 }));
+    assert_eq!(stored, b"some");
+    assert_eq!(client.codes(2).await?, ["150", "226"]);
     Ok(())
 }
 
