@@ -190,9 +190,10 @@ async fn what_is_dropped_has_its_end() -> Result<(), CodecError> {
     server.write_all(b"220 Ready\r\n").await?;
     client.write_all(b"DELE a\r\nNOOP x\r\n").await?;
     client.shutdown().await?;
-    while let Some(event) = proxy.next().await? {
-        drop(event);
+    for _ in ["220", "DELE", "NOOP"] {
+        assert!(!is_over(&mut proxy).await?);
     }
+    assert!(is_over(&mut proxy).await?);
     drop(proxy);
     let replies = all(&mut client).await?;
     assert_eq!(replies, "220 Ready\r\n502 Not implemented\r\n501 Invalid parameter\r\n");
@@ -200,10 +201,15 @@ async fn what_is_dropped_has_its_end() -> Result<(), CodecError> {
     Ok(())
 }
 
+async fn is_over(proxy: &mut Proxy) -> Result<bool, CodecError> {
+    let event = timeout(PATIENCE, proxy.next()).await.map_err(io::Error::from)??;
+    Ok(event.is_none())
+}
+
 /// The next event, which is a line or a reply.
 macro_rules! next {
     ($proxy:expr, $kind:ident) => {
-        match timeout(PATIENCE, $proxy.next()).await.expect("an event in time")? {
+        match timeout(PATIENCE, $proxy.next()).await.map_err(io::Error::from)?? {
             Some(ProxyEvent::$kind(taken)) => taken,
             other => panic!("{other:?}"),
         }
@@ -231,7 +237,7 @@ async fn a_reply_has_the_line_that_it_is_to() -> Result<(), CodecError> {
         assert_eq!(taken.reply.code(), code);
     }
     client.shutdown().await?;
-    assert!(proxy.next().await?.is_none());
+    assert!(is_over(&mut proxy).await?);
     Ok(())
 }
 
@@ -250,7 +256,7 @@ async fn a_reply_is_replaced_by_one_of_its_kind() -> Result<(), CodecError> {
     let last = next!(proxy, Reply);
     assert!(matches!(last.to, To::Nothing));
     last.replace(own(421))?;
-    let ending = tokio::spawn(async move { proxy.next().await.map(|event| event.is_none()) });
+    let ending = tokio::spawn(async move { is_over(&mut proxy).await });
     let replies = all(&mut client).await?;
     assert_eq!(replies, "220 Own\r\n150 Opening\r\n226 Done\r\n421 Own\r\n");
     drop(client);
@@ -270,7 +276,7 @@ async fn what_would_break_the_order_is_refused() -> Result<(), CodecError> {
     let sent = next!(proxy, Line).forward_as(b"NOOP\r\nDELE b\r\n");
     assert!(matches!(sent, Err(CodecError::Control(Error::NotALine))));
     client.shutdown().await?;
-    assert!(proxy.next().await?.is_none());
+    assert!(is_over(&mut proxy).await?);
     drop(proxy);
     assert_eq!(all(&mut client).await?.matches("502 Not implemented").count(), 2);
     assert!(soon(&mut server).await.is_empty());
@@ -298,7 +304,7 @@ async fn a_call_that_is_dropped_loses_nothing() -> Result<(), CodecError> {
 /// How many of these bytes a stream takes within a moment.
 async fn taken(stream: &mut DuplexStream, bytes: &[u8]) -> usize {
     let mut count = 0;
-    while let Ok(Ok(more)) = timeout(MOMENT, stream.write(&bytes[count..])).await {
+    while let Ok(Ok(more @ 1..)) = timeout(MOMENT, stream.write(&bytes[count..])).await {
         count += more;
     }
     count
