@@ -146,16 +146,17 @@ where
         loop {
             self.give_answer()?;
             let to_client = Pin::new(&mut self.client).poll_flush(context)?;
-            let to_server = Pin::new(&mut self.server);
-            let to_server = Sink::<(RawLine<'_>, OwnedLine)>::poll_flush(to_server, context)?;
             if self.is_done() {
                 return to_client.map(|()| Ok(Taken::End));
             }
+            // before a line is written: a server that has said 421 takes no more
             if to_client.is_ready() {
                 if let Poll::Ready(taken) = Pin::new(&mut self.server).poll_next(context) {
                     return Poll::Ready(self.reply(taken.transpose()?));
                 }
             }
+            let to_server = Pin::new(&mut self.server);
+            let to_server = Sink::<(RawLine<'_>, OwnedLine)>::poll_flush(to_server, context)?;
             if to_server.is_pending() || !self.takes_lines() {
                 return Poll::Pending;
             }

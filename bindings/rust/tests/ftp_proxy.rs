@@ -43,6 +43,16 @@ async fn relay(mut proxy: Proxy) -> Result<(), CodecError> {
     Ok(())
 }
 
+/// The next event, which is a line or a reply.
+macro_rules! next {
+    ($proxy:expr, $kind:ident) => {
+        match timeout(PATIENCE, $proxy.next()).await.map_err(io::Error::from)?? {
+            Some(ProxyEvent::$kind(taken)) => taken,
+            other => panic!("{other:?}"),
+        }
+    };
+}
+
 fn not_allowed() -> Reply {
     Reply::new(ReplyCode::COMMAND_NOT_IMPLEMENTED, "Not allowed")
 }
@@ -118,6 +128,23 @@ async fn a_421_is_passed_on_and_is_the_end() -> Result<(), CodecError> {
         drop(client);
         relaying.await.expect("no panic")?;
     }
+    Ok(())
+}
+
+#[tokio::test]
+async fn a_421_comes_before_the_error_of_a_line() -> Result<(), CodecError> {
+    let (mut client, mut proxy, mut server) = proxy(4096);
+    client.write_all(b"NOOP\r\n").await?;
+    next!(proxy, Line).forward()?;
+    server.write_all(b"220 Ready\r\n421 Stopping\r\n").await?;
+    drop(server);
+    for code in [220, 421] {
+        assert_eq!(next!(proxy, Reply).reply.code(), code);
+    }
+    client.shutdown().await?;
+    assert!(is_over(&mut proxy).await?);
+    drop(proxy);
+    assert_eq!(all(&mut client).await?, "220 Ready\r\n421 Stopping\r\n");
     Ok(())
 }
 
@@ -204,16 +231,6 @@ async fn what_is_dropped_has_its_end() -> Result<(), CodecError> {
 async fn is_over(proxy: &mut Proxy) -> Result<bool, CodecError> {
     let event = timeout(PATIENCE, proxy.next()).await.map_err(io::Error::from)??;
     Ok(event.is_none())
-}
-
-/// The next event, which is a line or a reply.
-macro_rules! next {
-    ($proxy:expr, $kind:ident) => {
-        match timeout(PATIENCE, $proxy.next()).await.map_err(io::Error::from)?? {
-            Some(ProxyEvent::$kind(taken)) => taken,
-            other => panic!("{other:?}"),
-        }
-    };
 }
 
 #[tokio::test]
