@@ -34,18 +34,17 @@ async fn relay(client: TcpStream, server: String) -> Result<(), Box<dyn Error + 
                 }
                 _ => taken.answer_usual(),
             },
+            ProxyEvent::Reply(taken) if taken.reply.code() != 229 => taken.pass_on(),
             ProxyEvent::Reply(taken) => {
+                let To::Command(line) = &taken.to else {
+                    return Err("a 229 as the greeting".into());
+                };
+                let reply = to_client.answer(line).ok_or("a 229 to another command")?;
                 let port = taken.reply.lines().find_map(find_extended_port);
-                match (&taken.to, port) {
-                    (To::Command(line), Some(port)) if taken.reply.code() == 229 => {
-                        let reply = to_client.answer(line).ok_or("a 229 to another command")?;
-                        to_server.connect_to(port);
-                        let (near, far) = (to_client.open(OPENING), to_server.open(OPENING));
-                        tokio::spawn(async move { relay_data(near.await?, far.await?).await });
-                        taken.replace(reply)?;
-                    }
-                    _ => taken.pass_on(),
-                }
+                to_server.connect_to(port.ok_or("a 229 without a port")?);
+                let (near, far) = (to_client.open(OPENING), to_server.open(OPENING));
+                tokio::spawn(async move { relay_data(near.await?, far.await?).await });
+                taken.replace(reply)?;
             }
         }
     }

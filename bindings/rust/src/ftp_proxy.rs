@@ -29,7 +29,7 @@ const MOST_OWED: u64 = 64;
 /// the program's waits until the server owes no reply, and so does the next line. The calls that
 /// decide it are those of a [`Client`](crate::Client).
 ///
-/// **What is dropped has its end too.** A line that is neither forwarded nor answered gets its
+/// **What is dropped is replied to as well.** A line that is neither forwarded nor answered gets its
 /// [usual reply](Event::usual_reply) from the proxy, and a reply is passed on.
 ///
 /// Nothing is read that can't be passed on: while a client doesn't read, no reply of the server is

@@ -176,7 +176,7 @@ impl FtpServer {
         FtpServer { opening: limit, ..self }
     }
 
-    /// Sets up the data port, as by [`DataPort::with_ports`].
+    /// Sets up the data port, as by [`DataPort::with_ports`] or [`DataPort::on_foreign_peer`].
     ///
     /// ```
     /// # use unftp_control::FtpServer;
@@ -237,8 +237,28 @@ impl FtpServer {
         }
     }
 
-    /// Ends the session by a last reply in place of any that is owed: 421, as for a client that is
-    /// idle too long.
+    /// Ends the session by a last reply in place of any that is owed, as 421 to a client that is idle
+    /// too long.
+    ///
+    /// ```
+    /// use std::time::Duration;
+    /// use tokio::time::timeout;
+    /// use unftp_control::{CodecError, FtpServer, Reply, ReplyCode, Request};
+    ///
+    /// async fn serve(mut server: FtpServer) -> Result<(), CodecError> {
+    ///     loop {
+    ///         let Ok(next) = timeout(Duration::from_secs(300), server.next()).await else {
+    ///             let late = Reply::new(ReplyCode::SERVICE_NOT_AVAILABLE, "Idle too long");
+    ///             return server.close(late).await;
+    ///         };
+    ///         match next? {
+    ///             None => return Ok(()),
+    ///             Some(Request::Login(login)) => login.answer(false).await?,
+    ///             Some(Request::Line(request)) => request.reply_usual().await?,
+    ///         }
+    ///     }
+    /// }
+    /// ```
     ///
     /// # Errors
     ///

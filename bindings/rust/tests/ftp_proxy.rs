@@ -78,11 +78,13 @@ async fn all(client: &mut DuplexStream) -> io::Result<String> {
     Ok(text)
 }
 
-/// What comes within a moment.
-async fn soon(stream: &mut DuplexStream) -> Vec<u8> {
-    let mut bytes = Vec::new();
-    while let Ok(Ok(1..)) = timeout(MOMENT, stream.read_buf(&mut bytes)).await {}
-    bytes
+/// Reads these bytes, after which a moment brings no others.
+async fn wants(stream: &mut DuplexStream, bytes: &[u8]) -> io::Result<()> {
+    let mut found = vec![0; bytes.len()];
+    timeout(PATIENCE, stream.read_exact(&mut found)).await??;
+    assert_eq!(String::from_utf8_lossy(&found), String::from_utf8_lossy(bytes));
+    assert!(!matches!(timeout(MOMENT, stream.read_u8()).await, Ok(Ok(_))));
+    Ok(())
 }
 
 #[tokio::test]
@@ -105,13 +107,13 @@ async fn answers_come_in_the_order_of_the_lines() -> Result<(), CodecError> {
 async fn an_answer_comes_after_the_final_reply() -> Result<(), CodecError> {
     let (mut client, mut server, relaying) = relayed(4096);
     client.write_all(b"RETR a\r\nDELE b\r\nNOOP\r\n").await?;
-    assert_eq!(soon(&mut server).await, b"RETR a\r\n");
+    wants(&mut server, b"RETR a\r\n").await?;
     let begun = b"120 Wait\r\n220-\xff\r\n 7\r\n220 \r\n110 MARK\r\n150 Opening\r\n";
     server.write_all(begun).await?;
-    assert_eq!(soon(&mut client).await, begun);
+    wants(&mut client, begun).await?;
     server.write_all(b"631 \xfe\r\n").await?;
-    assert_eq!(soon(&mut client).await, b"631 \xfe\r\n502 Not allowed\r\n");
-    assert_eq!(soon(&mut server).await, b"NOOP\r\n");
+    wants(&mut client, b"631 \xfe\r\n502 Not allowed\r\n").await?;
+    wants(&mut server, b"NOOP\r\n").await?;
     drop((server, client));
     relaying.await.expect("no panic")
 }
@@ -122,7 +124,7 @@ async fn a_421_is_passed_on_and_is_the_end() -> Result<(), CodecError> {
     for (before, lines) in [("", ""), ("220 Ready\r\n", ""), ("220 Ready\r\n", "NOOP\r\nPWD\r\n")] {
         let (mut client, mut server, relaying) = relayed(4096);
         client.write_all(lines.as_bytes()).await?;
-        assert_eq!(soon(&mut server).await, lines.as_bytes());
+        wants(&mut server, lines.as_bytes()).await?;
         server.write_all([before, end, "200 OK\r\n"].concat().as_bytes()).await?;
         assert_eq!(all(&mut client).await?, [before, end].concat());
         drop(client);
@@ -181,11 +183,11 @@ async fn a_client_that_has_ended_gets_its_replies() -> Result<(), CodecError> {
 async fn the_65th_line_waits_for_a_reply() -> Result<(), CodecError> {
     let (mut client, mut server, relaying) = relayed(4096);
     client.write_all(&b"NOOP\r\n".repeat(65)).await?;
-    assert_eq!(soon(&mut server).await, b"NOOP\r\n".repeat(64));
+    wants(&mut server, &b"NOOP\r\n".repeat(64)).await?;
     server.write_all(b"220 Ready\r\n").await?;
-    assert!(soon(&mut server).await.is_empty());
+    wants(&mut server, b"").await?;
     server.write_all(b"200 OK\r\n").await?;
-    assert_eq!(soon(&mut server).await, b"NOOP\r\n");
+    wants(&mut server, b"NOOP\r\n").await?;
     server.write_all(&b"200 OK\r\n".repeat(64)).await?;
     client.shutdown().await?;
     assert_eq!(all(&mut client).await?.matches("200 OK").count(), 65);
@@ -224,7 +226,7 @@ async fn what_is_dropped_has_its_end() -> Result<(), CodecError> {
     drop(proxy);
     let replies = all(&mut client).await?;
     assert_eq!(replies, "220 Ready\r\n502 Not implemented\r\n501 Invalid parameter\r\n");
-    assert!(soon(&mut server).await.is_empty());
+    wants(&mut server, b"").await?;
     Ok(())
 }
 
@@ -296,7 +298,7 @@ async fn what_would_break_the_order_is_refused() -> Result<(), CodecError> {
     assert!(is_over(&mut proxy).await?);
     drop(proxy);
     assert_eq!(all(&mut client).await?.matches("502 Not implemented").count(), 2);
-    assert!(soon(&mut server).await.is_empty());
+    wants(&mut server, b"").await?;
     Ok(())
 }
 
@@ -313,8 +315,8 @@ async fn a_call_that_is_dropped_loses_nothing() -> Result<(), CodecError> {
     server.write_all(b"R\r\n").await?;
     next!(proxy, Reply).pass_on();
     assert!(timeout(MOMENT, proxy.next()).await.is_err());
-    assert_eq!(soon(&mut client).await, b"220 R\r\n");
-    assert_eq!(soon(&mut server).await, b"NOOP\r\n");
+    wants(&mut client, b"220 R\r\n").await?;
+    wants(&mut server, b"NOOP\r\n").await?;
     Ok(())
 }
 
@@ -333,7 +335,7 @@ async fn a_client_that_does_not_read_stops_the_server() -> Result<(), CodecError
     let (reply, lines) = (["200 ", &"a".repeat(1000), "\r\n"].concat(), b"NOOP\r\n".repeat(64));
     server.write_all(b"220 Ready\r\n").await?;
     client.write_all(&lines).await?;
-    assert_eq!(soon(&mut server).await, lines);
+    wants(&mut server, &lines).await?;
     let replies = reply.repeat(64);
     let count = taken(&mut server, replies.as_bytes()).await;
     assert!(count < 12_000, "{count}");

@@ -15,7 +15,7 @@ use tokio::io::{AsyncBufReadExt, AsyncRead, AsyncReadExt, AsyncWrite, AsyncWrite
 use tokio::io::{BufReader, BufWriter, ReadBuf};
 use tokio::net::{TcpListener, TcpSocket, TcpStream};
 use tokio::task::JoinHandle;
-use tokio::time::timeout;
+use tokio::time::{sleep, timeout};
 use unftp_control::{
     find_extended_port, find_host_port, CodecError, Command, Error, Event, FtpServer, LineRequest,
     Reply, ReplyCode, Request, Transfer,
@@ -371,7 +371,7 @@ async fn a_data_connection_that_breaks_is_426() -> io::Result<()> {
     client.send(format!("STOR {}\r\n", path.display())).await?;
     assert_eq!(client.codes(1).await?, ["150"]);
     data.write_all(b"some").await?;
-    wait_for(&path, b"some").await;
+    wait_for(&path, b"some").await?;
     socket2::SockRef::from(&data).set_linger(Some(Duration::ZERO))?;
     drop(data);
     assert_eq!(client.codes(1).await?, ["426"]);
@@ -388,10 +388,13 @@ fn temporary(name: &str) -> PathBuf {
 }
 
 /// Waits until a file has these bytes.
-async fn wait_for(path: &PathBuf, bytes: &[u8]) {
-    while std::fs::read(path).ok().as_deref() != Some(bytes) {
-        tokio::time::sleep(MOMENT / 10).await;
-    }
+async fn wait_for(path: &PathBuf, bytes: &[u8]) -> io::Result<()> {
+    let written = async {
+        while std::fs::read(path).ok().as_deref() != Some(bytes) {
+            sleep(MOMENT / 10).await;
+        }
+    };
+    Ok(timeout(PATIENCE, written).await?)
 }
 
 #[tokio::test]
