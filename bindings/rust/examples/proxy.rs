@@ -26,10 +26,8 @@ async fn relay(client: TcpStream, server: String) -> Result<(), Box<dyn Error + 
         match event {
             ProxyEvent::Line(taken) => match &taken.line.event {
                 Event::Command(Pasv | Epsv) => taken.forward_as(b"EPSV\r\n")?,
-                Event::Command(
-                    User { .. } | Pass { .. } | Quit | Noop | Syst | Type | Pwd | Cdup,
-                )
-                | Event::Command(Cwd { .. } | List { .. } | Nlst { .. } | Retr { .. }) => {
+                Event::Command(User { .. } | Pass { .. } | Quit | Noop | Syst | Type | Pwd)
+                | Event::Command(Cwd { .. } | Cdup | List { .. } | Nlst { .. } | Retr { .. }) => {
                     taken.forward()?;
                 }
                 _ => taken.answer_usual(),
