@@ -94,7 +94,7 @@ pub fn replies_are_exchanges()
         → AreClientSteps (new_client limit)
         (before ++ Took (record { to = Nothing; reply = reply }) ∷ later) client
         → suc (length (lines_sent before)) ≤ length (filter is_final (replies_owed before)) }
-    // The replies are cut from what was received as those of a decoder are.
+    // The replies are those that a decoder takes of what was received.
     ensures taken { (limit : Option ℕ) (steps : List ClientStep) (client : RustClient)
         → AreClientSteps (new_client limit) steps client
         → AreTakingSteps TakesReply [] (decoder_steps steps) client.replies.bytes }
@@ -111,8 +111,8 @@ pub fn tls_begins_after_234()
         → EndsInAgreement steps }
 {}
 
-/// It is so of a caller that keeps the bytes itself, and beside them a `Dialogue` to which it adds
-/// each line that it sends and the code of each reply that it finds.
+/// The same holds for a caller that keeps the bytes itself, and beside them a `Dialogue` to which it
+/// adds each line that it sends and the code of each reply that it finds.
 pub fn dialogues_are_exchanges()
     // The replies taken that were owed are exchanges: for the greeting, and then for each line in
     // turn.
@@ -136,12 +136,13 @@ pub fn dialogues_are_exchanges()
         → commands_owed dialogue ≡ 0 → EndsInAgreement steps }
 {}
 
-/// Of a proxy that forwards lines to a server, passes on the replies that are owed, and ends the
-/// session at any other. It answers a line itself only where the server has greeted and owes no
+/// A proxy forwards lines to a server, passes on the replies that are owed, and ends the session at
+/// any other. It answers a line itself only where the server has greeted and owes no
 /// reply. All that the client gets is the greeting and one exchange for each line, in order,
 /// whoever answers it.
 pub fn answers_are_exchanges()
-    // What the client is given are exchanges: for the greeting, and then for each line in turn.
+    // What the client is given are exchanges: for the greeting, and then for each line in turn. The
+    // last may lack its final reply.
     ensures exchanges { (steps : List ForwardingStep) (dialogue : RustDialogue)
         → AreForwardingSteps new_dialogue steps dialogue
         → AreExchanges Greeting (replies_given 0 0 steps) }
@@ -157,7 +158,8 @@ pub fn answers_are_exchanges()
 /// whatever lines and replies. All that its client gets is the greeting and one exchange for each
 /// line that was taken, in order, whoever answers it.
 pub fn calls_keep_the_order()
-    // What the client is given are exchanges: for the greeting, and then for each line in turn.
+    // What the client is given are exchanges: for the greeting, and then for each line in turn. The
+    // last may lack its final reply.
     ensures exchanges { (calls : List OrderCall)
         → AreExchanges Greeting (given_by 0 new_order calls) }
     // Each reply is to the greeting, or to a line that was taken.

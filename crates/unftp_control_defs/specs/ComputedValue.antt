@@ -1,8 +1,9 @@
--- The value of a parameter, computed from the left: it is the one that `Reads` relates to it.
+-- The value of a parameter, computed from the left: the only one, by the law `one_value`.
 use Rattle.std.specs.Prelude.{ℕ, Bool, true, false, ◌==◌, ◌&&◌, not, if◌then◌else◌, [], ◌∷◌, Option, Some, None, option_map, bytes_eq}
 use Rattle.unftp_control_defs.specs.Bytes.{Bytes, NUL, LF, CR}
 
--- where a later byte is: fresh or not, or after a CR
+-- where a later byte is: after the first unit or CR NUL, where an LF is data (fresh); after another
+-- byte; or after a CR
 pub data Context : Type 0 where
   After : Bool → Context
   Returning : Context

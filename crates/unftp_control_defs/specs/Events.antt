@@ -60,8 +60,8 @@ event_of (Ok command) = Command command
 event_of (Err refusal) = Refused (refusal_fault refusal)
 
 -- A limit on the length of a line, in bytes, its LF counted. RFC 959 names none: a server sets
--- it, to bound what it keeps of a line that doesn't end. So many bytes are more than a line may
--- have; without a limit, never.
+-- it, to bound what it keeps of a line that doesn't end. n bytes are more than a line may have;
+-- without a limit no n is.
 abbrev pub exceeds : Option ℕ → ℕ → Bool
 exceeds None n = false
 exceeds (Some limit) n = nat_lt limit n

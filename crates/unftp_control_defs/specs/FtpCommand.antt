@@ -1,7 +1,8 @@
 -- The commands of the control connection (RFC 959, section 4.1), with the older forms of RFC 1123,
 -- section 4.1.3.1 (XCWD, XMKD, XPWD), and those of RFC 2228 (AUTH, CCC, PBSZ, PROT), 2389 (FEAT,
 -- OPTS), 2428 (EPSV), 3659 (MDTM, MLSD, MLST, SIZE) and of the field (BYE, SITE MD5): what each
--- holds, its row in the table of verbs, and what is said of it.
+-- holds, its row in the table of verbs, and what is said of it. Any other verb of these RFCs, as
+-- REIN, SMNT, XCUP, XRMD and EPRT, is `Other`.
 use Rattle.std.specs.Prelude.{ℕ, List as Rows, [], ◌∷◌, Option, Some, None, Result, Ok, Err, codes}
 use Rattle.unftp_control_defs.specs.Bytes.{Bytes}
 use Rattle.unftp_control_defs.specs.declared.parameters.AuthParam.{AuthParam}
@@ -96,7 +97,8 @@ abbrev pub maybe_text : Option Bytes → Value
 maybe_text None = Nothing
 maybe_text (Some text) = Text text
 
--- The command of a name, which most verbs don't have, and of a value of the verb's kind.
+-- The command of a name and of a value of the verb's kind. The name is the word of the line, in upper
+-- case, which only SITE and other verbs keep. A value of a type of its own was read before.
 abbrev Makes : Type 0
 Makes = Bytes → Value → Outcome
 

@@ -10,7 +10,8 @@ pub data FtpReply : Type 0 where
   CodeAndMsg : ℕ → Bytes → FtpReply
   MultiLine : ℕ → List Bytes → FtpReply
 
--- A line that begins with a digit is padded, so that none is taken for the last one.
+-- A line that begins with a digit is padded, so that none is taken for the last one. RFC 959 asks it
+-- only of lines that begin with three digits.
 abbrev pub padded : Bytes → Bytes
 padded [] = []
 padded (b ∷ line) = if is_ascii_digit b then SP ∷ b ∷ line else b ∷ line
@@ -25,7 +26,8 @@ abbrev pub lines_after_code : ℕ → Bytes → List Bytes → Bytes
 lines_after_code code line [] = decimal code ++ spaced_line line
 lines_after_code code line (next ∷ lines) = padded line ++ crlf ++ lines_after_code code next lines
 
--- The code is written without padding; that of an empty text has no space after it.
+-- The code is written without padding. In `CodeAndMsg` an empty text has no space before it (RFC 959
+-- has one); any other text has.
 abbrev pub encoded : FtpReply → Bytes
 encoded Nothing = []
 encoded (CodeAndMsg code text) =

@@ -16,8 +16,8 @@ pub record Lines (input : Bytes) (lines : List Bytes) (incomplete : Bytes) : Typ
   pub each : AllByRecursion IsLine lines
   pub unended : Lacks LF incomplete
 
--- Those lines and the incomplete one, computed: a byte other than LF belongs to the first line
--- after it, or to the incomplete one where there is none.
+-- The lines of an input and its incomplete line, computed: a byte other than LF belongs to the first
+-- line after it, or to the incomplete line where there is none.
 abbrev pub onto_line : ℕ → List Bytes → List Bytes
 onto_line b [] = []
 onto_line b (line ∷ lines) = (b ∷ line) ∷ lines

@@ -1,6 +1,6 @@
--- The path of LIST: words that begin with a dash are options for a listing, as those of `ls`, and
--- are dropped (no RFC has them; clients send them). One space ends each word; further spaces are
--- part of the path.
+-- The path of LIST: the words at its start that begin with a dash are options for a listing, as those
+-- of `ls`, and are dropped (no RFC has them; clients send them). `--` ends the options, and is dropped
+-- too. One space ends each word; further spaces are part of the path.
 use Rattle.std.specs.Prelude.{◌≡◌, ◌≢◌, Bool, true, false, not, ◌==◌, if◌then◌else◌, List, [], ◌∷◌, ◌++◌, flat_map, ◌⊎◌, bytes_eq, nat_eq, drop}
 use Rattle.std.specs.List.{AllByRecursion, starts_with}
 use Rattle.unftp_control_defs.specs.Bytes.{Bytes, SP, DASH, Lacks}
@@ -29,7 +29,7 @@ pub record ListPath (text path : Bytes) : Type 0 where
   pub whole : text ≡ flat_map with_space options ++ tail
   pub end : EndsInPath tail path
 
--- That path, computed; in_word: within an option word, up to the space after it.
+-- The path of LIST, computed; in_word: within an option word, up to the space after it.
 abbrev pub path_from : Bool → Bytes → Bytes
 path_from in_word [] = []
 path_from true (b ∷ bytes) = path_from (not (b == SP)) bytes

@@ -1,6 +1,7 @@
 -- What each verb makes of its parameter: the values of STRU and MODE (RFC 959, section 4.1.2), of
--- PROT, PBSZ and AUTH (RFC 2228, section 3), of OPTS (RFC 2389, section 4) and of REST (RFC 3659,
--- section 5), and what the verbs of a kind make of theirs.
+-- PROT, PBSZ and AUTH (RFC 2228, section 3; TLS and PBSZ 0: RFC 4217; SSL is in neither), of OPTS
+-- (RFC 2389, section 4) and of REST (RFC 3659, section 5), and what the verbs of a kind make of
+-- theirs.
 use Rattle.std.specs.Prelude.{true, false, ◌==◌, ◌&&◌, nat_lt, ◌^◌, if◌then◌else◌, List, [], ◌∷◌, length, Option, option_map, Ok, Err, bytes_eq, codes, find}
 use Rattle.std.specs.Str.{is_utf8, all_ascii_digits}
 use Rattle.std.specs.Str.Lossy.{utf8_lossy}
@@ -23,7 +24,7 @@ use Rattle.unftp_control_defs.specs.declared.verb.Verb.TheVariants as verb
 abbrev pub row_of : {A : Type 0} → Bytes → List (Bytes × A) → Option A
 row_of name rows = option_map (λ row. row.1) (find (λ row. bytes_eq name row.0) rows)
 
--- one of these values
+-- one of these values, in this case only
 abbrev pub chosen : List (Bytes × FtpCommand) → Bytes → Outcome
 chosen [] v = Err InvalidCommand
 chosen (row ∷ rows) v = if bytes_eq row.0 v then Ok row.1 else chosen rows v
@@ -54,7 +55,8 @@ auth v = if nat_lt 3 (length v) then Err InvalidCommand
     else (if is_utf8 v then chosen mechanisms (upper v)
     else Err InvalidUtf8)
 
--- the offset of REST, a decimal number below 2 ^ 64 after a plus or none (RFC 3659, section 5)
+-- the offset of REST, a decimal number below 2 ^ 64 (RFC 3659, section 5), also after a plus, which no
+-- RFC has
 abbrev pub offset : Bytes → Outcome
 offset text = let digits = without_leading_plus text in
     if nat_lt 0 (length digits) && all_ascii_digits digits

@@ -15,9 +15,9 @@ pub record Law (S : Type 0) : Type 1 where
   pub may_fail : S → FtpEvent → Fault → Type 0
   pub done : S → Bool
 
--- and of one with several: its first reply to an event and the state after it; the replies that
--- follow in a state, each with the state after it; with which faults it may fail at an event, and
--- at a reply that follows; and in which states it is done
+-- What contracts know of a handler with several replies to an event: the first one and the state
+-- after it; the replies that follow in a state, each with the state after it; with which faults it
+-- may fail at an event, and at a reply that follows; and in which states it is done.
 pub record SessionLaw (S : Type 0) : Type 1 where
   pub says : S → FtpEvent → FtpReply
   pub next : S → FtpEvent → S
@@ -65,7 +65,7 @@ run_of law s [] = []
 run_of law s (event ∷ events) =
     event ∷ (if law.done (after law s event) then [] else run_of law (after law s event) events)
 
--- it ends so: one of the events leaves the handler done
+-- whether the run ends: one of the events leaves the handler done
 abbrev pub ends : {S : Type 0} → SessionLaw S → S → List FtpEvent → Bool
 ends law s [] = false
 ends law s (event ∷ events) = law.done (after law s event) || ends law (after law s event) events
@@ -112,11 +112,11 @@ text_for limit law s input = text_of law s (run_for limit law s input)
 abbrev pub after_lines : ℕ → Bytes → Bytes
 after_lines n input = concat (drop n (lines_of input)) ++ incomplete_line input
 
--- those after the last line of the run: where it doesn't end, those of the incomplete line
+-- the bytes after the last line of the run: where it doesn't end, those of the incomplete line
 abbrev pub unread : {S : Type 0} → Option ℕ → SessionLaw S → S → Bytes → Bytes
 unread limit law s input = after_lines (length (run_for limit law s input)) input
 
--- those after the line that ended it: where it doesn't end, none
+-- the bytes after the line that ended the run: where it doesn't end, none
 abbrev pub after_end : {S : Type 0} → Option ℕ → SessionLaw S → S → Bytes → Bytes
 after_end limit law s input =
     if ends_for limit law s input then unread limit law s input else []

@@ -4,7 +4,7 @@ use Rattle.std.specs.List.{AllByRecursion, before_first, after_first}
 use Rattle.std.specs.Str.{str_to_ascii_uppercase}
 use Rattle.unftp_control_defs.specs.Bytes.{Bytes, SP, CR, LF}
 
--- what ends a verb
+-- what ends a verb: one byte, so further spaces belong to the parameter
 abbrev pub is_separator : ℕ → Bool
 is_separator b = (b == SP) || (b == CR) || (b == LF)
 
@@ -14,7 +14,7 @@ pub record Cut (line verb parameter : Bytes) : Type 0 where
   pub whole : ((line ≡ verb) × (parameter ≡ []))
       ⊎ ((b : ℕ) × IsTrue (is_separator b) × (line ≡ verb ++ b ∷ parameter))
 
--- that verb and those bytes, computed
+-- the verb and the parameter bytes of a line, computed
 abbrev pub verb_of : Bytes → Bytes
 verb_of line = before_first is_separator line
 

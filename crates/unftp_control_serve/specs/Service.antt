@@ -140,11 +140,12 @@ pub record Serves (limit : Option ℕ) {S : Type 0} (law : SessionLaw S) (before
   pub written : HasWritten before.output after.output (text_for limit law before.state read)
   pub flushed : IsFlushed (text_for limit law before.state read) [] before.output.unflushed
       after.output.unflushed
-  -- The handler is in the last state of this run;
+  -- The handler is in the last state of this run.
   pub state : after.state ≡ last_state law before.state (run_for limit law before.state read)
+  -- Whether a line left the handler done.
   pub done : served.done ≡ ends_for limit law before.state read
-  -- and as many comparisons with a line feed were made as bytes were read, or where the handler was
-  -- left done, as came up to the end of that line, and at most 31 more.
+  -- Each byte was compared with a line feed once; of the bytes after the line that left the handler
+  -- done, at most 31 were.
   pub tested : AreScanned served.tests (length read) (length (after_end limit law before.state read))
   -- So many bytes came after the last line of the run.
   pub left : served.left ≡ saturating_u64 (length (unread limit law before.state read))

@@ -60,7 +60,8 @@ OneFlush result before after = HasWritten before after [] × MatchResult result
 abbrev pub Begins : {A : Type 0} → List A → List A → Type 0
 Begins {A} whole part = (left : List A) × (whole ≡ part ++ left)
 
--- after a text that was flushed, where it is not empty, and a part after it that may not have been
+-- How many bytes may be unflushed after `text`, which was flushed where it is not empty, and then
+-- `part`, which need not be.
 abbrev pub IsFlushed : Bytes → Bytes → ℕ → ℕ → Type 0
 IsFlushed [] part unflushed unflushed' = unflushed' ≤ unflushed + length part
 IsFlushed (b ∷ text) part unflushed unflushed' = unflushed' ≤ length part

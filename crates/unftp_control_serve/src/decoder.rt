@@ -374,7 +374,8 @@ impl EventDecoder {
     /// Drops all pending bytes, as a server does where the session ends, or before TLS begins: no
     /// later event comes of them. They are not scanned any more.
     pub fn clear(&mut self)
-        // No byte is pending or held, and no line is found; the limit and the counts stay.
+        // No byte is pending or in the buffer, `line` is empty, and no line is found; the limit and
+        // the counts stay.
         ensures cleared { self.new ≡ cleared self.old }
         // A limit is at least 1.
         ensures limit { IfSome self.new.limit (λ limit. 1 ≤ limit) }

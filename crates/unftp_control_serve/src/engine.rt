@@ -195,7 +195,7 @@ impl Engine {
     /// returned `Ok`: after the last line feed, or, once the run has ended, after the line that
     /// ended it; or `u64::MAX` where there are more.
     pub fn left(&self) -> u64
-        // The number of bytes after the last line that was taken, as the calls of `feed` left it.
+        // How many bytes came after the last line that was taken, or `u64::MAX` where more did.
         ensures { result ≡ self.now.left }
     {
         self.left
@@ -249,7 +249,8 @@ impl Engine {
         // What the handler has heard only grows.
         ensures heard { Begins (H.heard handler.new) (H.heard handler.old) }
         // A running engine answers the lines of the pending bytes and the piece, up to the
-        // session's end. At an error the replies before it are written and flushed.
+        // session's end. At an error the replies before it are written and flushed, and then perhaps
+        // a beginning of one more; without memory for the piece nothing is done.
         ensures outcome { IsRunning self.old → (heard : List H.Heard)
             → Begins heard (H.heard handler.new) → PieceOutcome self.old.limit (H.law heard)
             (snapshot_with H.state H.failures K.state handler.old output.old)
@@ -259,7 +260,8 @@ impl Engine {
         // and fail.
         ensures cuts { OnWrite result K.cuts }
         // At `Ok` only the incomplete line is pending, or nothing once the session has ended; at
-        // most 31 bytes after its end were scanned. Only an error makes the engine a failed one.
+        // most 31 bytes after its end were scanned. An error makes the engine a failed one, and
+        // nothing else does.
         ensures fed { IsRunning self.old → MatchResult result
             (λ _. (heard : List H.Heard) → Begins heard (H.heard handler.new)
             → IsFed (H.law heard) (H.state handler.old) self.old piece.now self.new)

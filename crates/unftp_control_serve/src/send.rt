@@ -26,7 +26,7 @@ pub trait Sink {
     /// lacks room for them, none is. It returns no other error.
     fn send(&mut self, bytes: &[u8]) -> Result<(), ServeError>
         // At `Ok` exactly the bytes are written and flushed, at `Write` and `WriteZero` a beginning
-        // of them, and at `OutOfMemory` none. No other error comes.
+        // of them is written, or all, and at `OutOfMemory` none. No other error comes.
         ensures sends { Sends result bytes.now (state self.old) (state self.new) }
         // `Write` and `WriteZero` come only where it may write a beginning of a reply, and fail.
         ensures cuts { OnWrite result cuts }

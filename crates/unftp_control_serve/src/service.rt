@@ -69,7 +69,7 @@ pub fn serve<R: Read, W: Write, H: Session>(
         (input_state_of R.remaining reader.old)
         (input_state_of R.remaining reader.new)) }
     // At an error the replies to the lines before, and the first ones to the next, are written and
-    // flushed. Only a failure that the error names is counted, and once.
+    // flushed, and of one more a beginning, or all where its flush failed. What failed is counted.
     ensures err { IfErr result (ServeEnded None (H.law (H.heard handler.new))
         (snapshot_of H.state H.failures W.contents handler.old writer.old)
         (snapshot_of H.state H.failures W.contents handler.new writer.new)
@@ -114,7 +114,7 @@ pub fn serve_with_limit<R: Read, W: Write, H: Session>(
         (input_state_of R.remaining reader.old)
         (input_state_of R.remaining reader.new)) }
     // At an error the replies to the lines before, and the first ones to the next, are written and
-    // flushed. Only a failure that the error names is counted, and once.
+    // flushed, and of one more a beginning, or all where its flush failed. What failed is counted.
     ensures err { IfErr result (ServeEnded (Some limit) (H.law (H.heard handler.new))
         (snapshot_of H.state H.failures W.contents handler.old writer.old)
         (snapshot_of H.state H.failures W.contents handler.new writer.new)
@@ -180,7 +180,7 @@ fn served_by(engine: &Engine) -> Served
 /// a slice are.
 pub fn known_input_is_served<H: Session>()
     // Where the whole input is known, the output, the handler's last state and, but for up to 31,
-    // the scanned bytes follow from it, read or not. Bytes are unread only after the session's end.
+    // the scanned bytes follow from it, read or not. All is read unless the session ended before.
     ensures { (heard : List H.Heard) (limit : Option ℕ) (before after : Snapshot H.State)
         (input input_after : InputState) (served : Report)
         → Serves limit (H.law heard) before after input input_after served

@@ -40,7 +40,7 @@ pub trait Session {
         // What it has heard only grows.
         ensures heard { Begins (heard self.new) (heard self.old) }
         // Whatever is heard later, the reply and the state after it are those that the law gives
-        // for the event, and an error is one that it allows.
+        // for the event, and an error is one that it allows, and is counted.
         ensures answers { (all : List Heard) → Begins all (heard self.new)
             → FirstAnswer (law all) (state self.old) (state self.new) (failures self.old)
             (failures self.new) (event_meant event) result };
@@ -52,7 +52,7 @@ pub trait Session {
         // What it has heard only grows.
         ensures heard { Begins (heard self.new) (heard self.old) }
         // Whatever is heard later, it is the next reply by the law, with a smaller number left
-        // after it, or none; an error is one that the law allows.
+        // after it, or none; an error is one that the law allows, and is counted.
         ensures answers { (all : List Heard) → Begins all (heard self.new)
             → FurtherAnswer (law all) (state self.old) (state self.new) (failures self.old)
             (failures self.new) left result };
@@ -60,7 +60,7 @@ pub trait Session {
     /// Whether the session ends here: it is asked after each event, once all its replies are sent,
     /// and never before the first.
     fn done(&self) -> bool
-        // Whatever is heard later, true exactly where the law is done in this state.
+        // By the law of any list, heard or not, true exactly where it is done in this state.
         ensures { (all : List Heard) → result ≡ (law all).done (state self.now) };
 }
 
