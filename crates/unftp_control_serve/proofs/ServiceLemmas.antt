@@ -17,7 +17,7 @@ use Rattle.unftp_control_defs.proofs.LineLemmas.{Lines-lines_of, incomplete_line
 use Rattle.unftp_control_defs.proofs.RunLemmas.{after_end-ended, run-ended, unread-ended}
 use Rattle.unftp_control_serve.specs.Endings.{Snapshot, RunFinished, RunFailed, NoRoom}
 use Rattle.unftp_control_serve.specs.Decoder.{kept_length, saturating_u64}
-use Rattle.unftp_control_serve.specs.Engine.{AreScanned, EngineState, IsRunning, after_end_with, bytes_with, ends_with, pending_with, fed, fresh}
+use Rattle.unftp_control_serve.specs.Engine.{AreScanned, EngineState, IsRunning, LacksPieceRoom, after_end_with, bytes_with, ends_with, pending_with, fed, fresh}
 use Rattle.unftp_control_serve.specs.Service.{AreReadBack, ServedInPieces, EndedLate, NoRoomForPiece, ReadFailed, ReadTooOften, Reports, ServeEnded, Serves, ServesKnown, most_held}
 use Rattle.unftp_control_serve.specs.declared.service.Served.{Served}
 use Rattle.unftp_control_serve.specs.declared.error.ServeError.{ServeError}
@@ -178,20 +178,24 @@ module _ {limit : Option ℕ} {S : Type 0} {law : SessionLaw S} {m : Snapshot S}
           no_read_failed = read.failures ∙ s.no_read_failed;
         }
 
-        no_room : after ≡ n → NoRoomForPiece limit law m after i k
-        no_room same = record {
+        no_room : LacksPieceRoom engine piece → after ≡ n → NoRoomForPiece limit law m after i k
+        no_room lacks same = record {
           pieces = s.pieces;
           last = piece;
           were_read = were_read_so;
+          lacked =
+              let kept = s.buffered ∙ ap (kept_length limit) (s.so_far.incomplete on) in
+              omega (arith, lacks.1, s.held, kept);
           answered = record { answered = rw same gone.answered; goes_on = gone.goes_on };
           no_read_failed = read.failures ∙ s.no_read_failed;
         }
 
-        pub Serving-failed : {lacks : Type 0} (error : ServeError) → NoRoom error lacks n after
+        pub Serving-failed : (error : ServeError)
+            → NoRoom error (LacksPieceRoom engine piece) n after
             ⊎ ((done : List FtpEvent) × RunFailed engine.limit law n (bytes_with engine piece)
             after error done)
             → ServeEnded limit law m after i k error
-        Serving-failed error.OutOfMemory (inl room) = inl (no_room room.2)
+        Serving-failed error.OutOfMemory (inl room) = inl (no_room room.1 room.2)
         Serving-failed error.OutOfMemory (inr failed) = inr (late error.OutOfMemory failed)
         Serving-failed (error.Write x) (inr failed) = late (error.Write x) failed
         Serving-failed error.WriteZero (inr failed) = late error.WriteZero failed

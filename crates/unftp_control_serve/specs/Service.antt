@@ -1,5 +1,5 @@
 -- What a whole service comes to.
-use Rattle.std.specs.Prelude.{◌≡◌, ℕ, ◌+◌, ◌-◌, ◌^◌, ◌≤◌, ◌⊎◌, max, true, false, List, [], ◌∷◌, ◌++◌, if◌then◌else◌, length, Option, Some}
+use Rattle.std.specs.Prelude.{◌≡◌, ℕ, ◌+◌, ◌-◌, ◌^◌, ◌<◌, ◌≤◌, ◌⊎◌, max, true, false, List, [], ◌∷◌, ◌++◌, if◌then◌else◌, length, Option, Some}
 use Rattle.std.specs.List.{AllByRecursion, concat}
 use Rattle.std.specs.Io.KnownBytes.{Appends, IsAtEnd}
 use Rattle.unftp_control_defs.specs.Bytes.{Bytes}
@@ -87,12 +87,15 @@ module _ (limit : Option ℕ) {S : Type 0} (law : SessionLaw S) (before after : 
     -- No read failed.
     pub no_read_failed : input'.failures ≡ input.failures
 
-  -- There was no memory for the last piece, and all lines of those before it were answered.
+  -- There was no memory for the last piece, and all lines of those before it were answered. With it
+  -- more bytes would have been held at once than were held of those before.
   pub record NoRoomForPiece : Type 0 where
     pub pieces : List Bytes
     pub last : Bytes
     -- These pieces were read, and nothing else.
     pub were_read : WereRead input input' (pieces ++ last ∷ []) []
+    pub lacked : most_held limit [] pieces
+        < kept_length limit (incomplete_line (concat pieces)) + length last
     pub answered : AnsweredPieces pieces
     -- No read failed.
     pub no_read_failed : input'.failures ≡ input.failures

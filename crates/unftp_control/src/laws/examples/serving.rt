@@ -25,6 +25,10 @@ pub fn errors_of_serve()
     ensures no_room { (before after : Snapshot ℕ) (input input_after : InputState)
         (v : NoRoomForPiece None counter before after input input_after)
         → RunFinished counter before (events None (concat v.pieces)) after × (v.last ≡ [] → ⊥) }
+    // a buffer that has held six bytes has room for five
+    ensures had_room { (before after : Snapshot ℕ) (input input_after : InputState)
+        (v : NoRoomForPiece None counter before after input input_after)
+        → v.pieces ≡ codes "NOOP\r\n" ∷ [] → v.last ≡ codes "PWD\r\n" → ⊥ }
 {}
 
 /// An input without its last line feed that was served whole, of a reader and a writer whose
