@@ -3,7 +3,7 @@
 -- OPTS), 2428 (EPSV), 3659 (MDTM, MLSD, MLST, SIZE) and of the field (BYE, SITE MD5): what each
 -- holds, its row in the table of verbs, and what is said of it. Any other verb of these RFCs, as
 -- REIN, SMNT, XCUP, XRMD and EPRT, is `Other`.
-use Rattle.std.specs.Prelude.{ℕ, List as Rows, [], ◌∷◌, Option, Some, None, Result, Ok, Err, codes}
+use Rattle.std.specs.Prelude.{ℕ, List as Rows, [], ◌∷◌, ◌++◌, map, Option, Some, None, Result, Ok, Err, codes}
 use Rattle.unftp_control_defs.specs.Bytes.{Bytes}
 use Rattle.unftp_control_defs.specs.declared.parameters.AuthParam.{AuthParam}
 use Rattle.unftp_control_defs.specs.declared.parameters.Choice.{Choice}
@@ -227,56 +227,17 @@ kind verb = (row verb).kind
 abbrev pub command_by : Verb → Bytes → Value → Outcome
 command_by verb = (row verb).command
 
--- the words of a line that are verbs, in upper case
+-- The words of a line that are verbs, in upper case: the canonical ones, and others.
 abbrev pub verbs : Rows (Bytes × Verb)
-verbs =
-    (codes "USER", verb.User)
-    ∷ (codes "PASS", verb.Pass)
-    ∷ (codes "ACCT", verb.Acct)
-    ∷ (codes "STAT", verb.Stat)
-    ∷ (codes "SYST", verb.Syst)
-    ∷ (codes "TYPE", verb.TypeCode)
-    ∷ (codes "HELP", verb.Help)
-    ∷ (codes "EPSV", verb.Epsv)
-    ∷ (codes "ALLO", verb.Allo)
-    ∷ (codes "STRU", verb.Stru)
-    ∷ (codes "MODE", verb.Mode)
-    ∷ (codes "PROT", verb.Prot)
-    ∷ (codes "NOOP", verb.Noop)
-    ∷ (codes "PASV", verb.Pasv)
-    ∷ (codes "FEAT", verb.Feat)
-    ∷ (codes "CDUP", verb.Cdup)
-    ∷ (codes "ABOR", verb.Abor)
-    ∷ (codes "STOU", verb.Stou)
-    ∷ (codes "CCC", verb.Ccc)
-    ∷ (codes "PWD", verb.Pwd)
-    ∷ (codes "XPWD", verb.Pwd)
-    ∷ (codes "QUIT", verb.Quit)
-    ∷ (codes "BYE", verb.Quit)
-    ∷ (codes "PORT", verb.Port)
-    ∷ (codes "RETR", verb.Retr)
-    ∷ (codes "STOR", verb.Stor)
-    ∷ (codes "APPE", verb.Appe)
-    ∷ (codes "DELE", verb.Dele)
-    ∷ (codes "RMD", verb.Rmd)
-    ∷ (codes "CWD", verb.Cwd)
-    ∷ (codes "XCWD", verb.Cwd)
-    ∷ (codes "MKD", verb.Mkd)
-    ∷ (codes "XMKD", verb.Mkd)
-    ∷ (codes "RNFR", verb.Rnfr)
-    ∷ (codes "RNTO", verb.Rnto)
-    ∷ (codes "SIZE", verb.Size)
-    ∷ (codes "MDTM", verb.Mdtm)
-    ∷ (codes "NLST", verb.Nlst)
-    ∷ (codes "MLST", verb.Mlst)
-    ∷ (codes "MLSD", verb.Mlsd)
-    ∷ (codes "LIST", verb.List)
-    ∷ (codes "OPTS", verb.Opts)
-    ∷ (codes "AUTH", verb.Auth)
-    ∷ (codes "PBSZ", verb.Pbsz)
-    ∷ (codes "REST", verb.Rest)
-    ∷ (codes "SITE", verb.Site)
-    ∷ []
+verbs = map (λ verb. (word verb, verb))
+    (verb.User ∷ verb.Pass ∷ verb.Acct ∷ verb.Syst ∷ verb.Stat ∷ verb.TypeCode ∷ verb.Stru ∷
+    verb.Mode ∷ verb.Help ∷ verb.Noop ∷ verb.Pasv ∷ verb.Epsv ∷ verb.Port ∷ verb.Retr ∷
+    verb.Stor ∷ verb.Appe ∷ verb.List ∷ verb.Nlst ∷ verb.Mlst ∷ verb.Mlsd ∷ verb.Feat ∷ verb.Pwd ∷
+    verb.Cwd ∷ verb.Cdup ∷ verb.Opts ∷ verb.Dele ∷ verb.Rmd ∷ verb.Quit ∷ verb.Mkd ∷ verb.Allo ∷
+    verb.Abor ∷ verb.Stou ∷ verb.Rnfr ∷ verb.Rnto ∷ verb.Auth ∷ verb.Ccc ∷ verb.Pbsz ∷ verb.Prot ∷
+    verb.Size ∷ verb.Rest ∷ verb.Mdtm ∷ [])
+    ++ (codes "SITE", verb.Site) ∷ (codes "BYE", verb.Quit) ∷ (codes "XCWD", verb.Cwd)
+    ∷ (codes "XMKD", verb.Mkd) ∷ (codes "XPWD", verb.Pwd) ∷ []
 
 -- What is said of a command: a verb, a name and a value. The name is that of another subcommand of
 -- SITE or of another verb, and else empty. The value of LIST is only the path.

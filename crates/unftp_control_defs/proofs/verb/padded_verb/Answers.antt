@@ -1,4 +1,4 @@
-use Rattle.std.proofs.Common.{◌∙◌, sym}
+use Rattle.std.proofs.Common.{sym}
 use Rattle.unftp_control_defs.proofs.WordLemmas.{found_upper}
 use Rattle.unftp_control_defs.proofs.verb.padded_verb.Goals as goal
 
