@@ -30,6 +30,7 @@
 #include <string.h>
 #include <sys/socket.h>
 #include <sys/types.h>
+#include <time.h>
 #include <unistd.h>
 
 /* How many bytes a line may have. */
@@ -42,8 +43,8 @@
 #define CONTROL_ROOM 16384
 #endif
 
-#if CONTROL_ROOM < 2 * CONTROL_LINE_LIMIT
-#error "a line and a read have to fit into CONTROL_ROOM"
+#if CONTROL_LINE_LIMIT < 256 || CONTROL_ROOM < 2 * CONTROL_LINE_LIMIT
+#error "a line and a read have to fit into CONTROL_ROOM, and an answer into half of it"
 #endif
 
 enum {
@@ -59,8 +60,7 @@ enum {
     /* a proxy's own answer, with its code and its line end */
     CONTROL_ANSWER_ROOM = 256,
 
-    /* how much an end may still send once its session has ended, and how long it is waited for each
-       time, in milliseconds */
+    /* how much an end may still send once its session has ended, and for how many milliseconds */
     CONTROL_DROPPED_MOST = 1024 * 1024,
     CONTROL_LAST_WAIT = 2000
 };
@@ -168,16 +168,27 @@ static inline bool control_set_option(int socket, int level, int option)
     return setsockopt(socket, level, option, &on, sizeof on) == 0;
 }
 
+/* Milliseconds of a clock that nobody sets. */
+static inline int64_t control_now(void)
+{
+    struct timespec time;
+
+    clock_gettime(CLOCK_MONOTONIC, &time);
+    return (int64_t)time.tv_sec * 1000 + time.tv_nsec / 1000000;
+}
+
 /* Sets a connection up; false where a call on the socket fails. Urgent bytes are to be read where
    they were sent: the line feed of an ABOR may be one, and would be missing (RFC 959, section
-   4.1.3). What is sent is sent at once, and an end that is gone without a word is found out. */
+   4.1.3). What is sent is sent at once, and an end that is gone without a word is found out. No
+   program that this one starts has the socket. */
 static inline bool control_start(struct control *control, int socket)
 {
     memset(control, 0, sizeof *control);
     control->socket = socket;
     control->lines.limit = CONTROL_LINE_LIMIT;
     control->replies.limit = CONTROL_ROOM;
-    return control_set_option(socket, SOL_SOCKET, SO_OOBINLINE)
+    return fcntl(socket, F_SETFD, FD_CLOEXEC) >= 0
+        && control_set_option(socket, SOL_SOCKET, SO_OOBINLINE)
         && control_set_option(socket, SOL_SOCKET, SO_KEEPALIVE)
         && control_set_option(socket, IPPROTO_TCP, TCP_NODELAY);
 }
@@ -200,7 +211,7 @@ static inline int control_listen(uint16_t *port)
 {
     struct sockaddr_in address = control_loopback(*port);
     socklen_t len = sizeof address;
-    int listener = socket(AF_INET, SOCK_STREAM, 0);
+    int listener = socket(AF_INET, SOCK_STREAM | SOCK_CLOEXEC, 0);
 
     if (listener >= 0
         && (!control_set_option(listener, SOL_SOCKET, SO_REUSEADDR)
@@ -218,7 +229,7 @@ static inline int control_listen(uint16_t *port)
 static inline int control_connect(uint16_t port)
 {
     struct sockaddr_in address = control_loopback(port);
-    int connected = socket(AF_INET, SOCK_STREAM, 0);
+    int connected = socket(AF_INET, SOCK_STREAM | SOCK_CLOEXEC, 0);
 
     if (connected >= 0 && connect(connected, (struct sockaddr *)&address, sizeof address) < 0) {
         close(connected);
@@ -233,7 +244,8 @@ static inline bool control_is_passing(int error)
     return error == EINTR || error == EAGAIN || error == EWOULDBLOCK;
 }
 
-/* Takes what has come, for which there is room; false where nothing has come. */
+/* Takes what has come, for which there is room; false where nothing has come. An end that has reset
+   the connection also takes no more. */
 static inline bool control_receive(struct control *control)
 {
     struct control_bytes *from = &control->from;
@@ -247,8 +259,10 @@ static inline bool control_receive(struct control *control)
     } while (got < 0 && errno == EINTR);
     if (got > 0)
         from->end += (size_t)got;
+    else if (got < 0 && !control_is_passing(errno))
+        control->is_at_end = control->is_gone = true;
     else
-        control->is_at_end = got == 0 || !control_is_passing(errno);
+        control->is_at_end = got == 0;
     return got > 0;
 }
 
@@ -310,17 +324,18 @@ static inline bool control_is_over(struct control *control)
     return control->is_gone || control->dropped > CONTROL_DROPPED_MOST;
 }
 
-/* Ends a session as control_is_over says, waiting for the other end, and closes the socket. */
+/* Ends a session as control_is_over says, and closes the socket. The other end has a limited time
+   to take what is to be sent and to close. */
 static inline void control_finish(struct control *control)
 {
-    struct pollfd polled;
+    int64_t deadline = control_now() + CONTROL_LAST_WAIT, left;
 
     control->is_ending = true;
-    while (!control_is_over(control)) {
-        polled = control_polled(control);
-        if (poll(&polled, 1, CONTROL_LAST_WAIT) <= 0)
-            break;
-        control_exchange(control, polled.revents);
+    while (!control_is_over(control) && (left = deadline - control_now()) > 0) {
+        struct pollfd polled = control_polled(control);
+
+        if (poll(&polled, 1, (int)left) > 0)
+            control_exchange(control, polled.revents);
     }
     close(control->socket);
 }
@@ -573,11 +588,12 @@ static inline void control_proxy_decide(struct control_proxy *proxy,
     }
 }
 
-/* Gives the client an answer. */
+/* Gives the client an answer; the session is over where it has no room for that. */
 static inline enum control_event control_proxy_give(struct control_proxy *proxy, uint32_t code,
                                                     const char *text)
 {
-    control_say(&proxy->client, code, text);
+    if (!control_say(&proxy->client, code, text))
+        proxy->is_over = true;
     proxy->code = code;
     proxy->text = text;
     return CONTROL_ANSWER;
@@ -600,7 +616,6 @@ static inline enum control_event control_proxy_give_held(struct control_proxy *p
 static inline enum control_event control_proxy_pass(struct control_proxy *proxy,
                                                     const struct unftp_found_reply *reply)
 {
-    struct control_bytes *from = &proxy->server.from;
     bool is_unavailable = reply->code == UNFTP_CODE_SERVICE_NOT_AVAILABLE;
     uint64_t place;
     enum unftp_to to = unftp_client_reply(&proxy->dialogue, reply->code, &place);
@@ -608,10 +623,9 @@ static inline enum control_event control_proxy_pass(struct control_proxy *proxy,
     if (to == UNFTP_TO_NOTHING && !is_unavailable) {
         control_proxy_end(proxy, "the server replies to nothing");
     } else {
-        control_put(&proxy->client, control_front(from), reply->used);
+        control_put(&proxy->client, control_front(&proxy->server.from), reply->used);
         proxy->is_over = to == UNFTP_TO_NOTHING;
     }
-    control_drop(from, reply->used);
     if (is_unavailable || reply->code == UNFTP_CODE_CLOSING_CONTROL_CONNECTION)
         proxy->is_closing = true;
     proxy->code = reply->code;
@@ -624,11 +638,11 @@ static inline enum control_event control_proxy_reply(struct control_proxy *proxy
 {
     struct control *server = &proxy->server;
     struct unftp_found_reply reply;
-    enum unftp_result result = unftp_next_reply(&server->replies, control_front(&server->from),
-                                                control_pending(&server->from), &reply);
+    enum unftp_result result = control_next_reply(server, &reply);
 
     if (result == UNFTP_DONE && reply.used <= control_room(&proxy->client.to))
         return control_proxy_pass(proxy, &reply);
+    server->used = 0; /* it stays */
     if (result == UNFTP_REPLY_TOO_LONG)
         control_proxy_end(proxy, "the server's reply is too long");
     else if (result != UNFTP_DONE && result != UNFTP_MORE)

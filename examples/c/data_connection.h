@@ -1,6 +1,7 @@
 /*
- * A server's data port, to copy: the replies to PASV, EPSV, PORT and EPRT (RFC 959, section 4.1.2;
- * RFC 2428), and the data connection that they prepare. files.c shows it.
+ * A server's data port, to copy beside control_connection.h: the replies to PASV, EPSV, PORT and
+ * EPRT (RFC 959, section 4.1.2; RFC 2428), and the data connection that they prepare. files.c shows
+ * it.
  *
  * A data connection is between the addresses of the control connection. One from another address is
  * closed, and a PORT or EPRT with another address or a port below 1024 is refused, so that nothing
@@ -12,19 +13,10 @@
 #ifndef DATA_CONNECTION_H
 #define DATA_CONNECTION_H
 
-#include <unftp_control.h>
+#include "control_connection.h"
 
-#include <errno.h>
-#include <fcntl.h>
-#include <netinet/in.h>
-#include <poll.h>
-#include <stdbool.h>
 #include <stdio.h>
-#include <string.h>
 #include <strings.h>
-#include <sys/socket.h>
-#include <time.h>
-#include <unistd.h>
 
 enum {
     /* the first port that is no system's own */
@@ -110,7 +102,7 @@ static bool data_port_start(struct data_port *data, int control)
     return true;
 }
 
-/* Closes what listens, and forgets what PORT and EPRT named: after ABOR, a login, and at the end. */
+/* Closes what listens, and forgets what PORT and EPRT named: after ABOR and a login, and last. */
 static void data_port_close(struct data_port *data)
 {
     if (data->listener >= 0)
@@ -130,12 +122,9 @@ static int data_socket(const struct data_port *data)
 {
     struct sockaddr_storage own;
     socklen_t len = data_address(data, &data->server, 0, &own);
-    int made = socket(own.ss_family, SOCK_STREAM, 0);
+    int made = socket(own.ss_family, SOCK_STREAM | SOCK_CLOEXEC | SOCK_NONBLOCK, 0);
 
-    if (made < 0)
-        return -1;
-    if (fcntl(made, F_SETFD, FD_CLOEXEC) < 0 || fcntl(made, F_SETFL, O_NONBLOCK) < 0
-        || bind(made, (struct sockaddr *)&own, len) < 0) {
+    if (made >= 0 && bind(made, (struct sockaddr *)&own, len) < 0) {
         close(made);
         return -1;
     }
@@ -277,22 +266,13 @@ static uint32_t data_port_answer(struct data_port *data, enum unftp_result comma
     return data_active(data, is_eprt ? UNFTP_ADDRESS_EPRT : UNFTP_ADDRESS_PORT, parameter, text);
 }
 
-/* Milliseconds of a clock that nobody sets. */
-static int64_t data_now(void)
-{
-    struct timespec time;
-
-    clock_gettime(CLOCK_MONOTONIC, &time);
-    return (int64_t)time.tv_sec * 1000 + time.tv_nsec / 1000000;
-}
-
 /* Waits until the socket is ready, or the time has come; false then, with ETIMEDOUT. */
 static bool data_wait(int socket, short events, int64_t deadline)
 {
     struct pollfd polled = {.fd = socket, .events = events};
 
     for (;;) {
-        int64_t left = deadline - data_now();
+        int64_t left = deadline - control_now();
         int count = poll(&polled, 1, left > 0 ? (int)left : 0);
 
         if (count > 0 || (count < 0 && errno != EINTR))
@@ -318,7 +298,7 @@ static int data_accept(const struct data_port *data, int listener, int64_t deadl
             if (data_is_same_host(&host, &data->client))
                 return accepted;
             close(accepted);
-        } else if (errno != EAGAIN && errno != EINTR && errno != ECONNABORTED) {
+        } else if (!control_is_passing(errno) && errno != ECONNABORTED) {
             return -1;
         }
     }
@@ -350,12 +330,12 @@ static int data_connect(const struct data_port *data, uint32_t port, int64_t dea
 
 /*
  * Opens the data connection that the last command has prepared, within so many milliseconds: its
- * socket, whose calls wait; or -1 with errno, ENOTCONN where nothing is prepared and ETIMEDOUT after
- * that time. A server answers each failure by 425. Nothing is prepared from then on.
+ * socket, whose calls wait; or -1 with errno, ENOTCONN where nothing is prepared, and ETIMEDOUT
+ * after that time. A server answers each failure by 425. Nothing is prepared from then on.
  */
 static int data_port_open(struct data_port *data, int milliseconds)
 {
-    int64_t deadline = data_now() + milliseconds;
+    int64_t deadline = control_now() + milliseconds;
     int opened = -1, error = ENOTCONN;
 
     if (data_port_is_prepared(data)) {
@@ -364,7 +344,7 @@ static int data_port_open(struct data_port *data, int milliseconds)
         error = errno;
     }
     data_port_close(data);
-    if (opened >= 0 && fcntl(opened, F_SETFL, 0) < 0) {
+    if (opened >= 0 && (fcntl(opened, F_SETFL, 0) < 0 || fcntl(opened, F_SETFD, FD_CLOEXEC) < 0)) {
         error = errno;
         close(opened);
         opened = -1;

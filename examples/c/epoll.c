@@ -10,6 +10,7 @@
 
 #include "control_connection.h"
 
+#include <signal.h>
 #include <stdio.h>
 #include <stdlib.h>
 #include <sys/epoll.h>
@@ -34,8 +35,7 @@ static bool answer(struct control *control, const struct control_line *line)
     switch (line->event) {
     case UNFTP_TYPE: return control_say(control, UNFTP_CODE_COMMAND_OKAY, "OK");
     case UNFTP_PWD: return control_say(control, UNFTP_CODE_DIR_CREATED, "\"/\"");
-    case UNFTP_FEAT:
-        return control_say(control, UNFTP_CODE_SYSTEM_STATUS, "Features:\n UTF8\nEnd");
+    case UNFTP_FEAT: return control_say(control, UNFTP_CODE_SYSTEM_STATUS, "Features\n UTF8\nEnd");
     default: return control_usual_reply(control, line);
     }
 }
@@ -70,11 +70,10 @@ static void go_on(int poller, struct client *client, int operation, uint32_t rea
 static bool accept_client(int poller, int listener)
 {
     int accepted = accept4(listener, NULL, NULL, SOCK_NONBLOCK | SOCK_CLOEXEC);
-    struct client *client;
+    struct client *client = accepted < 0 ? NULL : calloc(1, sizeof *client);
 
     if (accepted < 0)
         return control_is_passing(errno) || errno == ECONNABORTED;
-    client = calloc(1, sizeof *client);
     if (client == NULL) {
         close(accepted);
         return false;
@@ -96,6 +95,7 @@ int main(int count, char **arguments)
         perror("epoll");
         return EXIT_FAILURE;
     }
+    signal(SIGPIPE, SIG_IGN); /* also where nobody reads the log */
     printf("%u\n", (unsigned)port);
     fflush(stdout);
     for (;; epoll_ctl(poller, EPOLL_CTL_MOD, listener, &listening)) {

@@ -4,7 +4,7 @@
  *     files [FOLDER [ADDRESS:PORT]]
  *
  * Who logs in as anna with the password secret may list, read and write the files of the folder, of
- * which none is in a folder below it. Names are the bytes that a client sends. It follows links, and
+ * which none is in a folder below it. Names are the bytes that a client sends. It follows links. It
  * answers a transfer before it reads the next line, so that ABOR comes too late. It prints its port
  * as one line, and logs each line of a client. An address of IPv6 is in brackets. server.c shows
  * limits on clients and a clean end.
@@ -109,14 +109,14 @@ static bool write_bytes(int to, const char *bytes, size_t len)
     return true;
 }
 
-/* Copies up to the end. */
+/* Copies up to the end. A stop of the process interrupts a socket with a limit on waiting. */
 static bool copy(int from, int to)
 {
     char piece[PIECE];
     ssize_t got;
 
-    while ((got = read(from, piece, sizeof piece)) > 0) {
-        if (!write_bytes(to, piece, (size_t)got))
+    while ((got = read(from, piece, sizeof piece)) > 0 || (got < 0 && errno == EINTR)) {
+        if (got > 0 && !write_bytes(to, piece, (size_t)got))
             return false;
     }
     return got == 0;
@@ -313,7 +313,7 @@ static int listen_at(char *place)
     struct addrinfo hints = {.ai_flags = AI_NUMERICHOST | AI_PASSIVE, .ai_socktype = SOCK_STREAM};
     struct addrinfo *found;
     char *colon = strrchr(place, ':');
-    int listener, on = 1;
+    int listener;
 
     if (colon == NULL)
         return -1;
@@ -324,9 +324,9 @@ static int listen_at(char *place)
     }
     if (getaddrinfo(place, colon + 1, &hints, &found) != 0)
         return -1;
-    listener = socket(found->ai_family, SOCK_STREAM, 0);
+    listener = socket(found->ai_family, SOCK_STREAM | SOCK_CLOEXEC, 0);
     if (listener >= 0
-        && (setsockopt(listener, SOL_SOCKET, SO_REUSEADDR, &on, sizeof on) < 0
+        && (!control_set_option(listener, SOL_SOCKET, SO_REUSEADDR)
             || bind(listener, found->ai_addr, found->ai_addrlen) < 0
             || listen(listener, SOMAXCONN) < 0)) {
         close(listener);

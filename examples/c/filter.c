@@ -98,6 +98,7 @@ int main(int count, char **arguments)
         return EXIT_FAILURE;
     }
     signal(SIGCHLD, SIG_IGN); /* no process is waited for */
+    signal(SIGPIPE, SIG_IGN); /* also where nobody reads the log */
     printf("%u\n", (unsigned)port);
     fflush(stdout);
     for (;;)

@@ -78,19 +78,9 @@ static void fail(const char *what)
     exit(EXIT_FAILURE);
 }
 
-/* Milliseconds of a clock that nobody sets. */
-static int64_t now(void)
-{
-    struct timespec time;
-
-    if (clock_gettime(CLOCK_MONOTONIC, &time) < 0)
-        fail("server: clock_gettime");
-    return (int64_t)time.tv_sec * 1000 + time.tv_nsec / 1000000;
-}
-
 static void allow(struct client *client, long seconds)
 {
-    client->deadline = now() + seconds * 1000;
+    client->deadline = control_now() + seconds * 1000;
     client->is_late = false;
 }
 
@@ -103,7 +93,7 @@ static enum event exchange(struct client *client)
                               {.fd = client->stopping, .events = POLLIN}};
 
     for (;;) {
-        int64_t left = client->deadline - now();
+        int64_t left = client->deadline - control_now();
         int count;
 
         if (left <= 0 && client->is_late)
@@ -468,7 +458,7 @@ static void start_listening(struct server *server)
         address->any.sa_family == AF_INET6 ? sizeof address->ipv6 : sizeof address->ipv4;
 
     *port_of(address) = htons((uint16_t)server->options.port);
-    server->listener = socket(address->any.sa_family, SOCK_STREAM, 0);
+    server->listener = socket(address->any.sa_family, SOCK_STREAM | SOCK_CLOEXEC, 0);
     if (server->listener >= FD_SETSIZE) /* pselect takes no greater one */
         errno = EMFILE;
     if (server->listener < 0 || server->listener >= FD_SETSIZE)
