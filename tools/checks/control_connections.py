@@ -1,29 +1,34 @@
 #!/usr/bin/env python3
-"""Checks the small programs over examples/c/control_connection.h: the server on epoll, and the filter.
+"""Checks the programs over examples/c/control_connection.h: the server on epoll and the filter, and a session of the server of files.
 
 usage: tools/checks/control_connections.py lines EPOLL..       lines in pieces and at once: logins, lines that are refused, and one that is too long
        tools/checks/control_connections.py unread EPOLL..      a client that sends lines and doesn't read
        tools/checks/control_connections.py many EPOLL..        many clients at once
        tools/checks/control_connections.py ends EPOLL..        clients that close, quit, or are gone
-       tools/checks/control_connections.py descriptors EPOLL..  no descriptor is left for a client
+       tools/checks/control_connections.py descriptors EPOLL..  no descriptor is left for a client, or for a program that is started
+       tools/checks/control_connections.py unlogged EPOLL FILTER  nobody reads the log
        tools/checks/control_connections.py turns FILTER..      a DELE between other lines, and ends of a session
        tools/checks/control_connections.py real PYTHON FILTER..  real clients before pyftpdlib's server, which this Python has
+       tools/checks/control_connections.py stopped FILES..     a process that is stopped in a transfer, and goes on
 
-EPOLL.. and FILTER.. are the program and what runs it. The last line says what was compared; the status is 0 where all is right.
+EPOLL.., FILTER.. and FILES.. are the program and what runs it. The last line says what was compared; the status is 0 where all is right.
 """
 
 import contextlib
 import ftplib
+import os
 import pathlib
 import random
 import shutil
+import signal
 import socket
 import subprocess
 import sys
 import tempfile
+import time
 
 from downloads import LARGE, PASSWORD, RealServer
-from relays import BYE, MANY, NOT_ALLOWED, OKAY, TAKES, Ends, fill, memory, reset, take_by_ftplib, wants_same, wants_silence
+from relays import BYE, MANY, NOT_ALLOWED, OKAY, SILENCE, TAKES, Ends, fill, memory, reset, sessions_of, take_by_ftplib, wants_same, wants_silence
 from started_server import GREETING, HOST, PATIENCE, StartedServer, Wrong, open_descriptors, processor_time, receive, run_check, send_pieces
 from started_server import wait_until, wants, without_descriptors
 
@@ -227,9 +232,17 @@ def check_ends(*program):
     return f"{len(SESSION_ENDS)} sessions that end"
 
 
+def inherited(pid):
+    """The sockets that a program would have which a process starts."""
+    numbers = [path.name for path in pathlib.Path(f"/proc/{pid}/fd").iterdir() if os.readlink(path).startswith("socket:")]
+    flags = {number: pathlib.Path(f"/proc/{pid}/fdinfo/{number}").read_text(encoding="ascii").split("flags:")[1].split()[0] for number in numbers}
+    return [number for number in numbers if not int(flags[number], 8) & os.O_CLOEXEC]
+
+
 def check_descriptors(*program):
     """A client waits in the queue, the server without haste, and other clients are served. Then it is served too."""
     with Program(*program, 0) as server, server.greeted() as beside:
+        wants("the sockets that stay open at exec", inherited(server.pid), [])
         with without_descriptors(server.pid), server.connect() as waiting:
             taken = processor_time(server.pid)
             for _ in range(3):
@@ -243,6 +256,30 @@ def check_descriptors(*program):
     if taken > 0.25:
         raise Wrong(f"a second without descriptors took {taken} seconds of a processor")
     return f"a client waits, with {taken} seconds of a processor"
+
+
+@contextlib.contextmanager
+def unlogged(*words):
+    """A program whose log nobody reads any more."""
+    reader, writer = os.pipe()
+    os.close(reader)
+    with os.fdopen(writer, "wb"), StartedServer([*map(str, words)], writer) as server:
+        yield server
+
+
+def check_unlogged(epoll, proxy):
+    """Its clients are served."""
+    with unlogged(epoll, 0) as server, server.greeted() as connection:
+        for _ in range(2):
+            connection.sendall(b"NOOP\r\n")
+            wants_session(connection, [(b"NOOP\r\n", b"200")])
+    with socket.create_server((HOST, 0)) as listener:
+        listener.settimeout(PATIENCE)
+        with unlogged(proxy, 0, listener.getsockname()[1]) as server, Ends(server, listener) as ends:
+            ends.greet()
+            ends.passes()
+            ends.passes()
+    return "2 lines to each program"
 
 
 @contextlib.contextmanager
@@ -310,14 +347,34 @@ def check_real(python, *program):
     return f"{len(takes)} clients"
 
 
+def check_stopped(*program):
+    """A stop interrupts the calls of sockets that have a limit on waiting (signal(7)). The upload goes on after it."""
+    with tempfile.TemporaryDirectory() as folder, Program(*program, folder, f"{HOST}:0") as server, ftplib.FTP(timeout=PATIENCE) as client:
+        client.connect(HOST, server.port)
+        client.login("anna", PASSWORD)
+        with client.transfercmd("STOR new") as data:
+            data.sendall(b"first,")
+            session = sessions_of(server.pid)[-1]
+            for number in [signal.SIGSTOP, signal.SIGCONT]:
+                time.sleep(SILENCE)
+                os.kill(session, number)
+            time.sleep(SILENCE)
+            data.sendall(b"second")
+        wants("the code of the upload", client.voidresp()[:3], "226")
+        wants("the file", pathlib.Path(folder, "new").read_bytes(), b"first,second")
+    return "an upload over a stop"
+
+
 CHECKS = {
     "lines": check_lines,
     "unread": check_unread,
     "many": check_many,
     "ends": check_ends,
     "descriptors": check_descriptors,
+    "unlogged": check_unlogged,
     "turns": check_turns,
     "real": check_real,
+    "stopped": check_stopped,
 }
 
 

@@ -443,11 +443,34 @@ def client_is_gone(ends):
 
 
 def client_is_gone_early(ends):
-    """Its replies come when it is gone. Until then the session takes no time of a processor."""
+    """The server learns of it, also where it owes a reply."""
+    ends.greet()
+    ends.client.sendall(b"NOOP\r\n")
+    ends.server_gets(b"NOOP\r\n")
+    reset(ends.client)
+    ends.server_ends_with(b"")
+
+
+def client_sends_on(ends):
+    """A client that goes on after QUIT, byte by byte, has a limited time."""
+    ends.greet()
+    ends.client.sendall(b"QUIT\r\n")
+    ends.server_gets(b"QUIT\r\n")
+    ends.server.sendall(BYE)
+    ends.server.close()
+    with contextlib.suppress(ConnectionError):
+        for _ in range(int(PATIENCE / SILENCE)):
+            ends.client.sendall(b"x")
+            time.sleep(SILENCE)
+        raise Wrong("a client sends on after QUIT")
+
+
+def client_has_closed(ends):
+    """Its replies come when it has closed. Until then the session takes no time of a processor."""
     ends.greet()
     ends.client.sendall(b"NOOP\r\n" * 3)
     ends.server_gets(b"NOOP\r\n" * 3)
-    reset(ends.client)
+    ends.client.close()
     session = sessions_of(ends.relay.pid)[-1]
     taken = processor_time(session)
     time.sleep(1)
@@ -489,8 +512,8 @@ def server_is_done(ends):
     ends.client_ends_with(b"421 Idle\r\n")
 
 
-SESSION_ENDS = [half_closed, without_line, quits, quits_early, client_is_gone, client_is_gone_early, server_is_gone, server_is_gone_unread,
-                server_is_done]
+SESSION_ENDS = [half_closed, without_line, quits, quits_early, client_is_gone, client_is_gone_early, client_sends_on, client_has_closed,
+                server_is_gone, server_is_gone_unread, server_is_done]
 
 
 def check_ends(*program):
