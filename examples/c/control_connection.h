@@ -13,7 +13,8 @@
  *
  * A proxy has a struct control_proxy, and decides on the lines that control_proxy_next takes.
  *
- * Before this file is included, CONTROL_LINE_LIMIT and CONTROL_ROOM may be defined, as numbers.
+ * Before this file is included, CONTROL_LINE_LIMIT and CONTROL_ROOM may be defined, as numbers. For
+ * a compiler of strict C, _POSIX_C_SOURCE is defined as 200809L.
  */
 #ifndef CONTROL_CONNECTION_H
 #define CONTROL_CONNECTION_H
@@ -325,12 +326,13 @@ static inline bool control_is_over(struct control *control)
 }
 
 /* Ends a session as control_is_over says, and closes the socket. The other end has a limited time
-   to take what is to be sent and to close. */
+   to take what is to be sent and to close, also where calls on the socket waited before. */
 static inline void control_finish(struct control *control)
 {
     int64_t deadline = control_now() + CONTROL_LAST_WAIT, left;
 
     control->is_ending = true;
+    control->is_gone = control->is_gone || !control_set_nonblocking(control->socket);
     while (!control_is_over(control) && (left = deadline - control_now()) > 0) {
         struct pollfd polled = control_polled(control);
 
@@ -523,8 +525,8 @@ static inline bool control_proxy_start(struct control_proxy *proxy, int client, 
     return has_client && has_server;
 }
 
-/* Answers the client in the server's place, once its turn has come. The text has to last, and to be
-   short: it has at most 250 bytes. */
+/* Answers the line that was taken in the server's place, once its turn has come. The code is from
+   200 on: no other reply follows. The text has to last, and has at most 250 bytes. */
 static inline void control_proxy_answer(struct control_proxy *proxy, enum unftp_code code,
                                         const char *text)
 {

@@ -146,9 +146,10 @@ static void answer_no_file(struct session *session)
     answer(session, UNFTP_CODE_FILE_ERROR, strerror(errno));
 }
 
+/* No pipe is waited for. */
 static void retrieve(struct session *session, const char *path)
 {
-    int file = open(path, O_RDONLY | O_CLOEXEC);
+    int file = open(path, O_RDONLY | O_NONBLOCK | O_CLOEXEC);
 
     if (file < 0) {
         answer_no_file(session);
@@ -161,7 +162,7 @@ static void retrieve(struct session *session, const char *path)
 /* Puts what comes into a file, and closes the data connection. */
 static void receive_file(struct session *session, int data, const char *path)
 {
-    int file = open(path, O_WRONLY | O_CREAT | O_TRUNC | O_CLOEXEC, 0666);
+    int file = open(path, O_WRONLY | O_CREAT | O_TRUNC | O_NONBLOCK | O_CLOEXEC, 0666);
     bool is_done;
 
     if (file < 0) {
