@@ -61,7 +61,8 @@ enum {
     /* a proxy's own answer, with its code and its line end */
     CONTROL_ANSWER_ROOM = 256,
 
-    /* how much an end may still send once its session has ended, and for how many milliseconds */
+    /* how much an end may still send once its session has ended, and how long after the last byte
+       that it took, in milliseconds */
     CONTROL_DROPPED_MOST = 1024 * 1024,
     CONTROL_LAST_WAIT = 2000
 };
@@ -83,8 +84,8 @@ struct control {
     size_t used;    /* by the last line or reply, which are the first bytes that have come */
     struct unftp_connection lines;
     struct unftp_reply_search replies;
-    struct control_bytes from;
-    struct control_bytes to;
+    struct control_bytes from; /* what has come */
+    struct control_bytes to;   /* what is to be sent */
 };
 
 /* A line of a client. It lasts until the next one is taken, or the socket is polled or received
@@ -239,8 +240,8 @@ static inline int control_connect(uint16_t port)
     return connected;
 }
 
-/* Whether a call on a socket that failed may be made again. */
-static inline bool control_is_passing(int error)
+/* Whether a call on a socket that failed by this error may be made again. */
+static inline bool control_may_retry(int error)
 {
     return error == EINTR || error == EAGAIN || error == EWOULDBLOCK;
 }
@@ -260,7 +261,7 @@ static inline bool control_receive(struct control *control)
     } while (got < 0 && errno == EINTR);
     if (got > 0)
         from->end += (size_t)got;
-    else if (got < 0 && !control_is_passing(errno))
+    else if (got < 0 && !control_may_retry(errno))
         control->is_at_end = control->is_gone = true;
     else
         control->is_at_end = got == 0;
@@ -277,7 +278,7 @@ static inline bool control_send(struct control *control)
 
         if (sent >= 0)
             control_drop(to, (size_t)sent);
-        else if (!control_is_passing(errno))
+        else if (!control_may_retry(errno))
             control->is_gone = true;
         else if (errno != EINTR)
             return false;
@@ -326,7 +327,7 @@ static inline bool control_is_over(struct control *control)
 }
 
 /* Ends a session as control_is_over says, and closes the socket. The other end has a limited time
-   to take what is to be sent and to close, also where calls on the socket waited before. */
+   to close once it takes no more, also where calls on the socket waited before. */
 static inline void control_finish(struct control *control)
 {
     int64_t deadline = control_now() + CONTROL_LAST_WAIT, left;
@@ -335,9 +336,12 @@ static inline void control_finish(struct control *control)
     control->is_gone = control->is_gone || !control_set_nonblocking(control->socket);
     while (!control_is_over(control) && (left = deadline - control_now()) > 0) {
         struct pollfd polled = control_polled(control);
+        size_t pending = control_pending(&control->to);
 
         if (poll(&polled, 1, (int)left) > 0)
             control_exchange(control, polled.revents);
+        if (control_pending(&control->to) < pending)
+            deadline = control_now() + CONTROL_LAST_WAIT;
     }
     close(control->socket);
 }
@@ -703,7 +707,8 @@ static inline enum control_event control_proxy_take(struct control_proxy *proxy,
         unftp_client_take(&proxy->dialogue);
         return CONTROL_LINE;
     }
-    proxy->is_over = client->is_at_end && control_proxy_is_answered(proxy);
+    proxy->is_over =
+        (client->is_at_end || proxy->drops_lines) && control_proxy_is_answered(proxy);
     return CONTROL_NOTHING;
 }
 

@@ -298,7 +298,7 @@ static int data_accept(const struct data_port *data, int listener, int64_t deadl
             if (data_is_same_host(&host, &data->client))
                 return accepted;
             close(accepted);
-        } else if (!control_is_passing(errno) && errno != ECONNABORTED) {
+        } else if (!control_may_retry(errno) && errno != ECONNABORTED) {
             return -1;
         }
     }

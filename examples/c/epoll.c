@@ -73,7 +73,7 @@ static bool accept_client(int poller, int listener)
     struct client *client = accepted < 0 ? NULL : calloc(1, sizeof *client);
 
     if (accepted < 0)
-        return control_is_passing(errno) || errno == ECONNABORTED;
+        return control_may_retry(errno) || errno == ECONNABORTED;
     if (client == NULL) {
         close(accepted);
         return false;

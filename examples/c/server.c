@@ -433,7 +433,7 @@ static void accept_client(struct server *server)
 {
     int socket = accept(server->listener, NULL, NULL);
 
-    if (socket < 0 && (control_is_passing(errno) || errno == ECONNABORTED))
+    if (socket < 0 && (control_may_retry(errno) || errno == ECONNABORTED))
         return;
     if (socket < 0) {
         pause_accepting(server);

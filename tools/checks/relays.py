@@ -451,6 +451,16 @@ def client_is_gone_early(ends):
     ends.server_ends_with(b"")
 
 
+def both_stay(ends):
+    """The session ends after the reply to QUIT, where neither end closes."""
+    ends.greet()
+    ends.client.sendall(b"QUIT\r\n")
+    ends.server_gets(b"QUIT\r\n")
+    ends.server.sendall(BYE)
+    ends.client_ends_with(BYE)
+    ends.server_ends_with(b"")
+
+
 def client_sends_on(ends):
     """A client that goes on after QUIT, byte by byte, has a limited time."""
     ends.greet()
@@ -512,8 +522,8 @@ def server_is_done(ends):
     ends.client_ends_with(b"421 Idle\r\n")
 
 
-SESSION_ENDS = [half_closed, without_line, quits, quits_early, client_is_gone, client_is_gone_early, client_sends_on, client_has_closed,
-                server_is_gone, server_is_gone_unread, server_is_done]
+SESSION_ENDS = [half_closed, without_line, quits, quits_early, client_is_gone, client_is_gone_early, both_stay, client_sends_on,
+                client_has_closed, server_is_gone, server_is_gone_unread, server_is_done]
 
 
 def check_ends(*program):
