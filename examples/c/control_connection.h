@@ -112,15 +112,10 @@ static inline const char *control_front(const struct control_bytes *bytes)
     return bytes->bytes + bytes->start;
 }
 
-static inline void control_drop(struct control_bytes *bytes, size_t len)
-{
-    bytes->start += len;
-}
-
 /* Drops the last line or reply. */
 static inline void control_drop_used(struct control *control)
 {
-    control_drop(&control->from, control->used);
+    control->from.start += control->used;
     control->used = 0;
 }
 
@@ -129,7 +124,7 @@ static inline size_t control_drop_all(struct control *control)
 {
     size_t dropped = control_pending(&control->from);
 
-    control_drop(&control->from, dropped);
+    control->from.start += dropped;
     control->used = 0;
     return dropped;
 }
@@ -277,7 +272,7 @@ static inline bool control_send(struct control *control)
         ssize_t sent = send(control->socket, control_front(to), control_pending(to), MSG_NOSIGNAL);
 
         if (sent >= 0)
-            control_drop(to, (size_t)sent);
+            to->start += (size_t)sent;
         else if (!control_may_retry(errno))
             control->is_gone = true;
         else if (errno != EINTR)
@@ -674,7 +669,7 @@ static inline bool control_drop_telnet(struct control *control)
             return false;
         if (control_front(from)[1] != '\xf4' && control_front(from)[1] != '\xf2')
             break;
-        control_drop(from, 2);
+        from->start += 2;
     }
     return true;
 }
@@ -759,7 +754,7 @@ static inline void control_proxy_wait(struct control_proxy *proxy, int idle)
     if (proxy->client.is_gone)
         proxy->is_over = true;
     if (proxy->server.is_gone) { /* its last replies may still be read */
-        control_drop(&proxy->server.to, control_pending(&proxy->server.to));
+        proxy->server.to.start = proxy->server.to.end;
         proxy->drops_lines = true;
     }
 }
