@@ -1,16 +1,17 @@
 """Where the boxes of a picture go whose lines lead from each layer to lower ones.
 
-A line that passes a layer has a place of its own there, as a narrow box, which all lines to the
-same box share. Boxes of a layer are ordered by the places of those that they are joined to."""
+A line that passes a layer has a place of its own there, as a narrow box. Boxes of a layer are
+ordered by the places of those that they are joined to."""
 
 ROUNDS = 24
 
 
 class Place:
-    """A box, or what a line to it passes: its layer, and what it is joined to above and below."""
+    """A box, or what a line passes: its layer, what it is joined to above and below, and the box at
+    which its lines begin."""
 
-    def __init__(self, name, layer, width):
-        self.name, self.layer, self.width = name, layer, width
+    def __init__(self, name, layer, width, start):
+        self.name, self.layer, self.width, self.start = name, layer, width, start
         self.x, self.above, self.below = 0.0, [], []
 
     def wanted(self):
@@ -39,8 +40,7 @@ class Layers:
     def __init__(self, uses, width, room, passing):
         self.width, self.room, self.passing = width, room, passing
         self.layers = {}
-        self.boxes = {name: self.add(name, layer_of(name, uses), room) for name in uses}
-        self.passed = {}
+        self.boxes = {name: self.add(name, layer_of(name, uses), room, name) for name in uses}
         for name in uses:
             for used in shortest(name, uses):
                 self.join(self.boxes[name], self.boxes[used])
@@ -49,26 +49,23 @@ class Layers:
         for _ in range(ROUNDS):
             self.settle()
 
-    def add(self, name, layer, width):
-        place = Place(name, layer, width)
+    def add(self, name, layer, width, start):
+        place = Place(name, layer, width, start)
         self.layers.setdefault(layer, []).append(place)
         return place
 
     def join(self, upper, lower):
         """Joins two boxes through the layers between them."""
         for layer in range(upper.layer - 1, lower.layer, -1):
-            key = (lower.name, layer)
-            if key not in self.passed:
-                self.passed[key] = self.add("", layer, self.passing)
-            self.link(upper, self.passed[key])
-            upper = self.passed[key]
+            place = self.add("", layer, self.passing, upper.start)
+            self.link(upper, place)
+            upper = place
         self.link(upper, lower)
 
     @staticmethod
     def link(upper, lower):
-        if lower not in upper.below:
-            upper.below.append(lower)
-            lower.above.append(upper)
+        upper.below.append(lower)
+        lower.above.append(upper)
 
     def settle(self):
         """Orders each layer by what its boxes are joined to, from the lowest, and then back."""
