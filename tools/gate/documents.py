@@ -69,13 +69,13 @@ def filled(text, indent=""):
     return "\n".join(lines)
 
 
-def titled(about, most=72):
-    """A title of the first sentence of a text, up to what explains it; and what the text says
-    besides."""
+def titled(about):
+    """A title of the first sentence of a text, up to what explains it, mostly of at most 72 letters;
+    and what the text says besides."""
     sentence = re.match(r".*?(?:\.(?= |$)|: |$)", about)[0]
     title = sentence.rstrip(".: ")
     for cut in (" (", ", ", "; "):
-        if len(title) > most or title.count("(") > title.count(")"):
+        if len(title) > 72 or title.count("(") > title.count(")"):
             title = title.partition(cut)[0]
     is_whole = title == sentence.rstrip(".")
     return title, about.removeprefix(sentence).strip() if is_whole else about
