@@ -70,8 +70,8 @@ def filled(text, indent=""):
 
 
 def titled(about):
-    """A title of the first sentence of a text, up to what explains it, mostly of at most 72 letters;
-    and what the text says besides."""
+    """A title of the first sentence of a text, up to what explains it, mostly of at most 72
+    letters; and what the text says besides."""
     sentence = re.match(r".*?(?:\.(?= |$)|: |$)", about)[0]
     title = sentence.rstrip(".: ")
     for cut in (" (", ", ", "; "):
