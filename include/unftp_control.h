@@ -87,10 +87,12 @@ enum unftp_result {
 
     /* A command, of unftp_next only. XCWD, XMKD, XPWD and BYE are CWD, MKD, PWD and QUIT. The
        comment beside each names its value. A value in brackets may be absent: its length is then 0.
-       A command without a comment takes no parameter: a line that has one is refused. */
-    UNFTP_USER = 1,    /* [name] */
-    UNFTP_PASS = 2,    /* [password] */
-    UNFTP_ACCT = 3,    /* [account] */
+       A command without a comment takes no parameter: a line that has one is refused, and so is
+       ABOR with Telnet's bytes before it. */
+    /* numbers: made by tools/gate/verbs of FtpCommand.antt */
+    UNFTP_USER = 1,    /* [name], any bytes */
+    UNFTP_PASS = 2,    /* [password], any bytes */
+    UNFTP_ACCT = 3,    /* [account], any bytes */
     UNFTP_SYST = 4,    /* no value: its parameter is ignored */
     UNFTP_STAT = 5,    /* [path], any bytes */
     UNFTP_TYPE = 6,    /* no value: its parameter is ignored */
@@ -118,7 +120,7 @@ enum unftp_result {
     UNFTP_QUIT = 28,
     UNFTP_MKD = 29,    /* path */
     UNFTP_ALLO = 30,   /* no value: its parameter is ignored */
-    UNFTP_ABOR = 31,   /* no parameter; refused with Telnet's bytes before it */
+    UNFTP_ABOR = 31,
     UNFTP_STOU = 32,
     UNFTP_RNFR = 33,   /* path */
     UNFTP_RNTO = 34,   /* path */
@@ -127,11 +129,12 @@ enum unftp_result {
     UNFTP_PBSZ = 37,   /* 0 */
     UNFTP_PROT = 38,   /* C, S, E or P, in upper case only */
     UNFTP_SIZE = 39,   /* path */
-    UNFTP_REST = 40,   /* offset, decimal digits of a number below 2^64 */
+    UNFTP_REST = 40,   /* decimal digits of a number below 2^64; the line may have + before them */
     UNFTP_MDTM = 41,   /* path */
     UNFTP_MD5 = 42,    /* path; SITE MD5 */
     UNFTP_SITE = 43,   /* [arguments]; its name is the subcommand */
     UNFTP_OTHER = 44,  /* [arguments]; its name is the line's verb, which is none of the above */
+    /* end of numbers */
 
     /* More bytes are needed. */
     UNFTP_MORE = 101,
@@ -648,8 +651,8 @@ enum unftp_result unftp_canonical(const char *line, size_t line_len,
  * of out, and *len is how many bytes it has. It means the same, and its one line feed is its last
  * byte. A command doesn't hold all that a line says, and this line has the verb in upper case and
  * the bytes of the parameter as they came, up to the line's end: any bytes, also those that are not
- * UTF-8, and a CR that no LF follows. It is the canonical line for NOOP, PASV, FEAT, PWD, XPWD,
- * CDUP, QUIT, BYE, ABOR, STOU and CCC, and for STRU, MODE, OPTS, AUTH, PBSZ, PROT and REST.
+ * UTF-8, and a CR that no LF follows. It is the canonical line for a command that takes no
+ * parameter, and for STRU, MODE, OPTS, AUTH, PBSZ, PROT and REST.
  *
  *     the client's line      unftp_canonical        unftp_forward
  *     type a                 TYPE I                 TYPE a
@@ -964,6 +967,7 @@ static inline const char *unftp_result_text(uint32_t result)
 {
     switch (result) {
     case UNFTP_DONE: return "done";
+    /* verbs: made by tools/gate/verbs of FtpCommand.antt */
     case UNFTP_USER: return "USER";
     case UNFTP_PASS: return "PASS";
     case UNFTP_ACCT: return "ACCT";
@@ -1008,6 +1012,7 @@ static inline const char *unftp_result_text(uint32_t result)
     case UNFTP_MD5: return "SITE MD5";
     case UNFTP_SITE: return "SITE";
     case UNFTP_OTHER: return "another verb";
+    /* end of verbs */
     case UNFTP_MORE: return "more bytes are needed";
     case UNFTP_INVALID_COMMAND: return "invalid command";
     case UNFTP_INVALID_UTF8: return "not UTF-8";

@@ -34,9 +34,8 @@ pub struct Forwarded {
 
 /// The line that a proxy sends to a server for a client's line, with its CR LF: a line that means
 /// the same, and keeps what no command holds. It is the verb in upper case and the bytes of the
-/// parameter as they came. It is the canonical line for NOOP, PASV, FEAT, PWD, XPWD, CDUP, QUIT,
-/// BYE, ABOR, STOU and CCC, which take no value, and for STRU, MODE, OPTS, AUTH, PBSZ, PROT and
-/// REST.
+/// parameter as they came. It is the canonical line for a verb that takes no value, as NOOP, and
+/// for STRU, MODE, OPTS, AUTH, PBSZ, PROT and REST.
 ///
 /// It keeps what servers read in different ways: a bare CR, a NUL or a byte 255 in a parameter, and
 /// a verb with other bytes than letters and digits, as in `DELE\tb`. So a proxy that allows only

@@ -16,6 +16,13 @@ use std::fmt::{self, Debug, Display, Formatter};
 /// A text is UTF-8, with U+FFFD for each ill-formed part of what was sent; [`RawBytes`] are as they
 /// were sent. In both, a carriage return that was sent as CR NUL is one CR (RFC 854).
 ///
+/// Where a command ignores its parameter, as TYPE does, [`Line::parameter`](crate::Line::parameter)
+/// has it. Its [line](Command::to_line) is always the same, as `TYPE I`: another is sent by
+/// [`Client::send_line`](crate::Client::send_line).
+///
+/// tnftp and lftp send Telnet's bytes before ABOR, IAC IP IAC DM, which is `\xff\xf4\xff\xf2`
+/// (RFC 854). With them the line is refused: the caller takes them away before.
+///
 /// `Debug` shows an account, and of a password only asterisks. So it does of the arguments of
 /// `Other`, and of its name where that is not one of a few known ones: a mistyped PASS is such a
 /// verb. Of `Site` it shows name and arguments of CHMOD, IDLE, MD5, UMASK and UTIME, and the name
@@ -31,40 +38,39 @@ use std::fmt::{self, Debug, Display, Formatter};
 #[derive(Clone, PartialEq, Eq)]
 #[non_exhaustive]
 pub enum Command<'a> {
+    // variants: made by tools/gate/verbs of FtpCommand.antt
     /// USER: who logs in (RFC 959, section 4.1.1).
     User {
-        /// The name; it may be empty.
+        /// The name as the client sent it, in no particular encoding; it may be empty.
         username: RawBytes<'a>,
     },
     /// PASS: the password (RFC 959, section 4.1.1).
     Pass {
-        /// The password; it may be empty.
+        /// The password as the client sent it; it may be empty.
         password: Password<'a>,
     },
     /// ACCT: the account (RFC 959, section 4.1.1).
     Acct {
-        /// The account; it may be empty.
+        /// The account as the client sent it; it may be empty.
         account: RawBytes<'a>,
     },
     /// SYST: asks for the operating system (RFC 959, section 4.1.3). Its parameter is ignored.
     Syst,
     /// STAT: asks for the status of the server, or of a path (RFC 959, section 4.1.3).
     Stat {
-        /// The path; never an empty one.
+        /// The path as the client sent it; never an empty one.
         path: Option<RawBytes<'a>>,
     },
-    /// TYPE: the representation of files (RFC 959, section 4.1.2). Its parameter is ignored;
-    /// [`Line::parameter`](crate::Line::parameter) has it. The line of this command is always
-    /// `TYPE I`: that of another type is sent by [`Client::send_line`](crate::Client::send_line).
+    /// TYPE: the representation of files (RFC 959, section 4.1.2). Its parameter is ignored.
     Type,
     /// STRU: the structure of files (RFC 959, section 4.1.2).
     Stru {
-        /// The structure. Its letter is in upper case only: `STRU f` is refused.
+        /// The structure.
         structure: StruParam,
     },
     /// MODE: the transfer mode (RFC 959, section 4.1.2).
     Mode {
-        /// The mode. Its letter is in upper case only: `MODE s` is refused.
+        /// The mode.
         mode: ModeParam,
     },
     /// HELP: asks for help on the server (RFC 959, section 4.1.3). Its parameter is ignored.
@@ -74,7 +80,7 @@ pub enum Command<'a> {
     /// PASV: listen for the data connection (RFC 959, section 4.1.2).
     Pasv,
     /// EPSV: listen for the data connection, over IPv4 or IPv6 (RFC 2428, section 3). Its parameter
-    /// is ignored: the line of this command is always `EPSV`, also where `EPSV ALL` came.
+    /// is ignored.
     Epsv,
     /// PORT: connect to the client for data (RFC 959, section 4.1.2).
     Port {
@@ -98,9 +104,9 @@ pub enum Command<'a> {
     },
     /// LIST: list a directory for people (RFC 959, section 4.1.3).
     List {
-        /// Always `None`: the options before the path are dropped.
+        /// None in a command from [`Pending`](crate::Pending), which drops option words.
         options: Option<Cow<'a, str>>,
-        /// What to list; never an empty path.
+        /// What to list; in a command from [`Pending`](crate::Pending) not empty.
         path: Option<Cow<'a, str>>,
     },
     /// NLST: list the names in a directory (RFC 959, section 4.1.3).
@@ -133,7 +139,7 @@ pub enum Command<'a> {
     Cdup,
     /// OPTS: set an option (RFC 2389, section 4).
     Opts {
-        /// The option. It is `UTF8 ON` or `UTF8 OFF`, all in upper case or all in lower case.
+        /// The option.
         option: Opt,
     },
     /// DELE: delete a file (RFC 959, section 4.1.3).
@@ -153,12 +159,9 @@ pub enum Command<'a> {
         /// The directory; not empty.
         path: Cow<'a, str>,
     },
-    /// ALLO: reserve room (RFC 959, section 4.1.3). Its parameter is ignored: the line of this
-    /// command is always `ALLO 0`, also where `ALLO 5` came.
+    /// ALLO: reserve room (RFC 959, section 4.1.3). Its parameter is ignored.
     Allo,
-    /// ABOR: end the transfer that is under way (RFC 959, section 4.1.3). tnftp and lftp send
-    /// Telnet's bytes before it, IAC IP IAC DM, which is `\xff\xf4\xff\xf2` (RFC 854). With them
-    /// the line is refused: the caller takes them away before.
+    /// ABOR: end the transfer that is under way (RFC 959, section 4.1.3).
     Abor,
     /// STOU: store under a name that the server chooses (RFC 959, section 4.1.3).
     Stou,
@@ -174,7 +177,7 @@ pub enum Command<'a> {
     },
     /// AUTH: protect the control connection (RFC 2228, section 3; RFC 4217, section 4).
     Auth {
-        /// The mechanism; the case of its letters is ignored.
+        /// The mechanism.
         protocol: AuthParam,
     },
     /// CCC: go on without protection of the control connection (RFC 2228, section 3).
@@ -183,7 +186,7 @@ pub enum Command<'a> {
     Pbsz,
     /// PROT: the protection of the data connection (RFC 2228, section 3).
     Prot {
-        /// The level. Its letter is in upper case only: `PROT p` is refused.
+        /// The level.
         param: ProtParam,
     },
     /// SIZE: asks for the size of a file (RFC 3659, section 4).
@@ -220,6 +223,7 @@ pub enum Command<'a> {
         /// What follows the verb; it may be empty.
         arguments: Cow<'a, str>,
     },
+    // end of variants
 }
 
 /// Gives a macro each command, after its other arguments: its number in the header, its variant, its
@@ -228,6 +232,7 @@ macro_rules! for_each_command {
     ($call:ident!($($argument:expr),*)) => {
         $call! {
             $($argument,)*
+            // rows: made by tools/gate/verbs of FtpCommand.antt
             1 User "USER" bytes { username }
             2 Pass "PASS" password { password }
             3 Acct "ACCT" bytes { account }
@@ -272,6 +277,7 @@ macro_rules! for_each_command {
             42 Md5 "SITE" text { file }
             43 Site "SITE" named { command, arguments }
             44 Other "" named { command_name, arguments }
+            // end of rows
         }
     };
 }

@@ -1,11 +1,10 @@
 //! Each command by its variant and fields.
 mod common;
 
+use common::cases::is_one_line;
 use std::borrow::Cow;
-use unftp_control::{
-    AuthParam, Command, Event, ModeParam, Opt, Password, Pending, ProtParam, RawBytes, Refusal,
-    StruParam,
-};
+use std::collections::HashSet;
+use unftp_control::{Command, Event, Password, Pending, RawBytes, Refusal};
 
 /// The event of a line.
 fn event_of(line: &[u8]) -> Event<'static> {
@@ -22,99 +21,32 @@ fn command_of(line: &[u8]) -> Command<'static> {
     }
 }
 
-/// A line for each of the 44 variants, in the order of their numbers, and others where a field may
-/// be missing or has a few values.
-fn commands() -> Vec<(&'static str, Command<'static>)> {
-    use Command::*;
-    vec![
-        ("user Dolores\r\n", User { username: b"Dolores".into() }),
-        ("USER\r\n", User { username: b"".into() }),
-        ("PASS secr3t\r\n", Pass { password: b"secr3t".into() }),
-        ("ACCT a\r\n", Acct { account: b"a".into() }),
-        ("SYST\r\n", Syst),
-        ("STAT /\r\n", Stat { path: Some(b"/".into()) }),
-        ("STAT\r\n", Stat { path: None }),
-        ("TYPE A N\r\n", Type),
-        ("STRU F\r\n", Stru { structure: StruParam::File }),
-        ("STRU R\r\n", Stru { structure: StruParam::Record }),
-        ("STRU P\r\n", Stru { structure: StruParam::Page }),
-        ("MODE S\r\n", Mode { mode: ModeParam::Stream }),
-        ("MODE B\r\n", Mode { mode: ModeParam::Block }),
-        ("MODE C\r\n", Mode { mode: ModeParam::Compressed }),
-        ("HELP RETR\r\n", Help),
-        ("NOOP\r\n", Noop),
-        ("PASV\r\n", Pasv),
-        ("EPSV ALL\r\n", Epsv),
-        ("PORT 127,0,0,1,4,0\r\n", Port { addr: "127,0,0,1,4,0".into() }),
-        ("RETR a b\r\n", Retr { path: "a b".into() }),
-        ("STOR a\r\n", Stor { path: "a".into() }),
-        ("APPE a\r\n", Appe { path: "a".into() }),
-        ("LIST -la x\r\n", List { options: None, path: Some("x".into()) }),
-        ("LIST -a\r\n", List { options: None, path: None }),
-        ("NLST x\r\n", Nlst { path: Some("x".into()) }),
-        ("NLST\r\n", Nlst { path: None }),
-        ("MLST x\r\n", Mlst { path: Some("x".into()) }),
-        ("MLSD x\r\n", Mlsd { path: Some("x".into()) }),
-        ("FEAT\r\n", Feat),
-        ("XPWD\r\n", Pwd),
-        ("XCWD /a\r\n", Cwd { path: "/a".into() }),
-        ("CDUP\r\n", Cdup),
-        ("OPTS UTF8 ON\r\n", Opts { option: Opt::Utf8 { on: true } }),
-        ("OPTS utf8 off\r\n", Opts { option: Opt::Utf8 { on: false } }),
-        ("DELE a\r\n", Dele { path: "a".into() }),
-        ("RMD a\r\n", Rmd { path: "a".into() }),
-        ("BYE\r\n", Quit),
-        ("XMKD a\r\n", Mkd { path: "a".into() }),
-        ("ALLO 5 R 3\r\n", Allo),
-        ("ABOR\r\n", Abor),
-        ("STOU\r\n", Stou),
-        ("RNFR a\r\n", Rnfr { file: "a".into() }),
-        ("RNTO b\r\n", Rnto { file: "b".into() }),
-        ("AUTH tls\r\n", Auth { protocol: AuthParam::Tls }),
-        ("AUTH SSL\r\n", Auth { protocol: AuthParam::Ssl }),
-        ("CCC\r\n", Ccc),
-        ("PBSZ 0\r\n", Pbsz),
-        ("PROT C\r\n", Prot { param: ProtParam::Clear }),
-        ("PROT S\r\n", Prot { param: ProtParam::Safe }),
-        ("PROT E\r\n", Prot { param: ProtParam::Confidential }),
-        ("PROT P\r\n", Prot { param: ProtParam::Private }),
-        ("SIZE a\r\n", Size { file: "a".into() }),
-        ("REST +18446744073709551615\r\n", Rest { offset: u64::MAX }),
-        ("MDTM a\r\n", Mdtm { file: "a".into() }),
-        ("SITE MD5 a\r\n", Md5 { file: "a".into() }),
-        ("site chmod 644 a\r\n", Site { command: "CHMOD".into(), arguments: "644 a".into() }),
-        ("clnt x y\r\n", Other { command_name: "CLNT".into(), arguments: "x y".into() }),
-        ("\r\n", Other { command_name: "".into(), arguments: "".into() }),
-    ]
-}
-
-#[test]
-fn each_variant_has_its_fields() {
-    for (line, command) in commands() {
-        assert_eq!(command_of(line.as_bytes()), command, "{line:?}");
-    }
+/// The lines of the vector files by hand, each with one line feed at its end.
+fn lines() -> Vec<Vec<u8>> {
+    let rows = ["parse.tsv", "worked.tsv"].into_iter().flat_map(|it| common::calls(it, &["parse"]));
+    rows.map(|(words, _)| common::bytes(&words[0])).filter(|it| is_one_line(it)).collect()
 }
 
 #[test]
 fn all_44_variants_are_reached() {
-    let mut variants: Vec<_> = commands()
-        .into_iter()
-        .map(|(line, _)| std::mem::discriminant(&command_of(line.as_bytes())))
+    let events = lines().into_iter().map(|line| event_of(&line));
+    let variants: HashSet<_> = events
+        .filter_map(|event| match event {
+            Event::Command(command) => Some(std::mem::discriminant(&command)),
+            Event::Refused(_) => None,
+        })
         .collect();
-    variants.dedup();
     assert_eq!(variants.len(), 44);
 }
 
 #[test]
 fn an_owned_event_is_equal() {
-    for (line, _) in commands() {
+    for line in lines() {
         let mut pending = Pending::new();
-        pending.push(line.as_bytes()).expect("memory is there");
+        pending.push(&line).expect("memory is there");
         let event = pending.next_event().expect("memory is there").expect("the line is complete");
         assert_eq!(event.clone().into_owned(), event);
     }
-    let refused = Event::Refused(Refusal::InvalidCommand);
-    assert_eq!(refused.clone().into_owned(), refused);
 }
 
 #[test]

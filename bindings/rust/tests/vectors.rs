@@ -52,10 +52,12 @@ fn each_line_is_what_the_vectors_say() {
 
 /// The verbs whose line is forwarded as the canonical one: those without a value, and those whose
 /// value has a type of its own.
+// canonical: made by tools/gate/verbs of FtpCommand.antt
 const CANONICAL: [&str; 18] = [
-    "NOOP", "PASV", "FEAT", "PWD", "XPWD", "CDUP", "QUIT", "BYE", "ABOR", "STOU", "CCC", "STRU",
-    "MODE", "OPTS", "AUTH", "PBSZ", "PROT", "REST",
+    "STRU", "MODE", "NOOP", "PASV", "FEAT", "PWD", "XPWD", "CDUP", "OPTS", "QUIT", "BYE", "ABOR",
+    "STOU", "AUTH", "CCC", "PBSZ", "PROT", "REST",
 ];
+// end of canonical
 
 #[test]
 fn each_other_line_is_forwarded_with_its_parameter() {

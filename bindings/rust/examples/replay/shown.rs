@@ -1,8 +1,10 @@
 //! Commands, refusals and addresses as the vector files write them.
+use std::borrow::Cow;
 use std::net::{IpAddr, SocketAddr, SocketAddrV4};
 use unftp_control::{
     extended, extended_port, find_extended_port, find_host_port, host_port, read_extended,
-    read_host_port, AddressError, Command, Error, Refusal,
+    read_host_port, AddressError, AuthParam, Command, Error, ModeParam, Opt, Password, ProtParam,
+    RawBytes, Refusal, StruParam,
 };
 
 /// The bytes between quotes, in ASCII: what is printable as it is, and all else escaped.
@@ -33,62 +35,104 @@ pub fn shown_exchange(line: Result<String, Error>) -> Result<String, Error> {
     })
 }
 
-/// A field of bytes or of a text.
-fn field(name: &str, value: impl AsRef<[u8]>) -> String {
-    format!(" {name}={}", quoted(value.as_ref()))
+/// A field as the vector files write it.
+trait Shown {
+    fn shown(&self) -> String;
 }
 
-/// A field that may be missing.
-fn optional(name: &str, value: Option<impl AsRef<[u8]>>) -> String {
-    match value {
-        Some(value) => field(name, value),
-        None => format!(" {name}=None"),
+impl<T: Shown> Shown for Option<T> {
+    fn shown(&self) -> String {
+        self.as_ref().map_or("None".to_string(), T::shown)
     }
+}
+
+/// How a field of each type is written.
+macro_rules! shown_as {
+    ($($type:ty, $field:ident: $shown:expr;)*) => {
+        $(impl Shown for $type {
+            fn shown(&self) -> String {
+                let $field = self;
+                $shown
+            }
+        })*
+    };
+}
+
+shown_as! {
+    RawBytes<'_>, bytes: quoted(bytes);
+    Password<'_>, password: quoted(password.as_bytes());
+    Cow<'_, str>, text: quoted(text.as_bytes());
+    StruParam, structure: format!("{structure:?}");
+    ModeParam, mode: format!("{mode:?}");
+    AuthParam, mechanism: format!("{mechanism:?}");
+    ProtParam, protection: format!("{protection:?}");
+    u64, offset: offset.to_string();
+    Opt, option: match option {
+        Opt::Utf8 { on } => format!("Utf8 on={on}"),
+        _ => "another option".to_string(),
+    };
+}
+
+/// A variant's name and its fields.
+macro_rules! shown {
+    ($variant:literal $(, $field:ident)*) => {
+        [$variant.to_string() $(, format!(concat!(stringify!($field), "={}"), $field.shown()))*]
+            .join(" ")
+    };
 }
 
 /// The command's variant and its fields.
 pub fn shown(command: &Command) -> String {
     use Command::*;
-    let fields = match command {
-        User { username } => field("username", username),
-        Pass { password } => field("password", password.as_bytes()),
-        Acct { account } => field("account", account),
-        Port { addr } => field("addr", text(addr)),
-        Retr { path } | Stor { path } | Appe { path } | Cwd { path } => field("path", text(path)),
-        Dele { path } | Rmd { path } | Mkd { path } => field("path", text(path)),
-        Rnfr { file } | Rnto { file } | Size { file } => field("file", text(file)),
-        Mdtm { file } | Md5 { file } => field("file", text(file)),
-        Stat { path } => optional("path", path.as_ref()),
-        Nlst { path } | Mlst { path } | Mlsd { path } => optional("path", path.as_deref()),
-        List { options, path } => {
-            optional("options", options.as_deref()) + &optional("path", path.as_deref())
-        }
-        Site { command, arguments } => {
-            field("command", text(command)) + &field("arguments", text(arguments))
-        }
-        Other { command_name, arguments } => {
-            field("command_name", text(command_name)) + &field("arguments", text(arguments))
-        }
-        Stru { structure } => format!(" structure={structure:?}"),
-        Mode { mode } => format!(" mode={mode:?}"),
-        Opts { option: unftp_control::Opt::Utf8 { on } } => format!(" option=Utf8 on={on}"),
-        Auth { protocol } => format!(" protocol={protocol:?}"),
-        Prot { param } => format!(" param={param:?}"),
-        Rest { offset } => format!(" offset={offset}"),
-        _ => String::new(),
-    };
-    variant(command) + &fields
-}
-
-/// The variant's name, with which its Debug text begins; `Type` has another in the vector files.
-fn variant(command: &Command) -> String {
-    let debug = format!("{command:?}");
-    let name = debug.split(' ').next().unwrap_or_default();
-    if name == "Type" { "TypeCode" } else { name }.to_string()
-}
-
-fn text(text: &str) -> &str {
-    text
+    match command {
+        // arms: made by tools/gate/verbs of FtpCommand.antt
+        User { username } => shown!("User", username),
+        Pass { password } => shown!("Pass", password),
+        Acct { account } => shown!("Acct", account),
+        Syst => shown!("Syst"),
+        Stat { path } => shown!("Stat", path),
+        Type => shown!("TypeCode"),
+        Stru { structure } => shown!("Stru", structure),
+        Mode { mode } => shown!("Mode", mode),
+        Help => shown!("Help"),
+        Noop => shown!("Noop"),
+        Pasv => shown!("Pasv"),
+        Epsv => shown!("Epsv"),
+        Port { addr } => shown!("Port", addr),
+        Retr { path } => shown!("Retr", path),
+        Stor { path } => shown!("Stor", path),
+        Appe { path } => shown!("Appe", path),
+        List { options, path } => shown!("List", options, path),
+        Nlst { path } => shown!("Nlst", path),
+        Mlst { path } => shown!("Mlst", path),
+        Mlsd { path } => shown!("Mlsd", path),
+        Feat => shown!("Feat"),
+        Pwd => shown!("Pwd"),
+        Cwd { path } => shown!("Cwd", path),
+        Cdup => shown!("Cdup"),
+        Opts { option } => shown!("Opts", option),
+        Dele { path } => shown!("Dele", path),
+        Rmd { path } => shown!("Rmd", path),
+        Quit => shown!("Quit"),
+        Mkd { path } => shown!("Mkd", path),
+        Allo => shown!("Allo"),
+        Abor => shown!("Abor"),
+        Stou => shown!("Stou"),
+        Rnfr { file } => shown!("Rnfr", file),
+        Rnto { file } => shown!("Rnto", file),
+        Auth { protocol } => shown!("Auth", protocol),
+        Ccc => shown!("Ccc"),
+        Pbsz => shown!("Pbsz"),
+        Prot { param } => shown!("Prot", param),
+        Size { file } => shown!("Size", file),
+        Rest { offset } => shown!("Rest", offset),
+        Mdtm { file } => shown!("Mdtm", file),
+        Md5 { file } => shown!("Md5", file),
+        Site { command, arguments } => shown!("Site", command, arguments),
+        Other { command_name, arguments } => shown!("Other", command_name, arguments),
+        // end of arms
+        _ => "another command".to_string(),
+    }
 }
 
 /// The kind of the parser's error.
