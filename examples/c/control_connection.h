@@ -515,6 +515,25 @@ enum control_event {
     CONTROL_ANSWER   /* the client is given an answer of the proxy, with this code and text */
 };
 
+/* Whether a command logs in, asks or reads, so that a proxy may send its line on. PORT and EPRT don't,
+   whose address would be the proxy's, nor AUTH, which would end in what nobody can read. Nor does
+   MDTM: some servers take a time before its path, and give it to the file. A command that is not
+   listed doesn't, also one that the library comes to know later. */
+static inline bool control_only_reads(enum unftp_result command)
+{
+    switch (command) {
+    case UNFTP_USER: case UNFTP_PASS: case UNFTP_ACCT: case UNFTP_QUIT: case UNFTP_NOOP:
+    case UNFTP_SYST: case UNFTP_FEAT: case UNFTP_HELP: case UNFTP_STAT: case UNFTP_OPTS:
+    case UNFTP_TYPE: case UNFTP_STRU: case UNFTP_MODE: case UNFTP_ALLO: case UNFTP_REST:
+    case UNFTP_PASV: case UNFTP_EPSV: case UNFTP_ABOR: case UNFTP_PWD: case UNFTP_CWD:
+    case UNFTP_CDUP: case UNFTP_RETR: case UNFTP_LIST: case UNFTP_NLST: case UNFTP_MLST:
+    case UNFTP_MLSD: case UNFTP_SIZE:
+        return true;
+    default:
+        return false;
+    }
+}
+
 /* Sets a proxy up, of all zeros, between two sockets; false where a call on one of them fails. */
 static inline bool control_proxy_start(struct control_proxy *proxy, int client, int server)
 {

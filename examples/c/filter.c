@@ -25,21 +25,10 @@ enum {
     PAUSE = 100 * 1000 * 1000
 };
 
-/* PORT and EPRT are not sent on, whose address would be this host's, nor AUTH, which would end in
-   what nobody can read. */
+/* What only reads may be sent on, and what makes a file or a directory. */
 static bool is_allowed(enum unftp_result command)
 {
-    switch (command) {
-    case UNFTP_USER: case UNFTP_PASS: case UNFTP_ACCT: case UNFTP_QUIT: case UNFTP_NOOP:
-    case UNFTP_SYST: case UNFTP_FEAT: case UNFTP_HELP: case UNFTP_STAT: case UNFTP_OPTS:
-    case UNFTP_TYPE: case UNFTP_STRU: case UNFTP_MODE: case UNFTP_ALLO: case UNFTP_REST:
-    case UNFTP_PASV: case UNFTP_EPSV: case UNFTP_ABOR: case UNFTP_PWD: case UNFTP_CWD:
-    case UNFTP_CDUP: case UNFTP_MKD: case UNFTP_RETR: case UNFTP_STOR: case UNFTP_LIST:
-    case UNFTP_NLST: case UNFTP_MLST: case UNFTP_MLSD: case UNFTP_SIZE:
-        return true;
-    default:
-        return false;
-    }
+    return control_only_reads(command) || command == UNFTP_STOR || command == UNFTP_MKD;
 }
 
 /* Serves a client from the server's greeting to the end of the session. */

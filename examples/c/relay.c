@@ -50,23 +50,6 @@ static void fail(const char *what)
     exit(EXIT_FAILURE);
 }
 
-/* A command that is not listed is refused, also one that the library comes to know later, and MDTM:
-   some servers take a time before its path, and give it to the file. */
-static bool is_allowed(enum unftp_result command)
-{
-    switch (command) {
-    case UNFTP_USER: case UNFTP_PASS: case UNFTP_ACCT: case UNFTP_QUIT: case UNFTP_NOOP:
-    case UNFTP_SYST: case UNFTP_FEAT: case UNFTP_HELP: case UNFTP_STAT: case UNFTP_OPTS:
-    case UNFTP_TYPE: case UNFTP_STRU: case UNFTP_MODE: case UNFTP_ALLO: case UNFTP_REST:
-    case UNFTP_PASV: case UNFTP_EPSV: case UNFTP_ABOR: case UNFTP_PWD: case UNFTP_CWD:
-    case UNFTP_CDUP: case UNFTP_RETR: case UNFTP_LIST: case UNFTP_NLST: case UNFTP_MLST:
-    case UNFTP_MLSD: case UNFTP_SIZE:
-        return true;
-    default:
-        return false;
-    }
-}
-
 /* Logs what has passed, and decides on a line. */
 static void handle(struct control_proxy *proxy, enum control_event event,
                    struct control_line *line)
@@ -76,7 +59,7 @@ static void handle(struct control_proxy *proxy, enum control_event event,
     switch (event) {
     case CONTROL_LINE:
         fprintf(stderr, "relay %ld: line %s\n", process, control_shown(line));
-        control_proxy_decide(proxy, line, is_allowed(line->event));
+        control_proxy_decide(proxy, line, control_only_reads(line->event));
         break;
     case CONTROL_REPLY:
         fprintf(stderr, "relay %ld: reply %03u\n", process, (unsigned)proxy->code);

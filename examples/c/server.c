@@ -150,8 +150,8 @@ static bool answer_site(struct control *control, const struct control_line *line
     return answer_not_implemented(control, line);
 }
 
-/* Answers a line as if there were no login; false where it has no reply. A password is in no reply.
-   Without a default, a compiler names the commands that are forgotten. */
+/* Answers a line as if there were no login; false where it has no reply. A password is in no
+   reply. */
 static bool answer_command(struct control *control, const struct control_line *line)
 {
     static const char features[] = "Features:\n UTF8\nEnd";
@@ -165,23 +165,13 @@ static bool answer_command(struct control *control, const struct control_line *l
     case UNFTP_HELP: return control_say(control, UNFTP_CODE_HELP_MESSAGE, help);
     case UNFTP_PWD: return control_say(control, UNFTP_CODE_DIR_CREATED, directory);
     case UNFTP_SITE: return answer_site(control, line);
-    case UNFTP_USER: case UNFTP_PASS: case UNFTP_STAT: case UNFTP_STRU: case UNFTP_MODE:
-    case UNFTP_PASV: case UNFTP_EPSV: case UNFTP_PORT: case UNFTP_RETR: case UNFTP_STOR:
-    case UNFTP_APPE: case UNFTP_LIST: case UNFTP_NLST: case UNFTP_MLST: case UNFTP_MLSD:
-    case UNFTP_CWD: case UNFTP_CDUP: case UNFTP_OPTS: case UNFTP_DELE: case UNFTP_RMD:
-    case UNFTP_MKD: case UNFTP_ALLO: case UNFTP_ABOR: case UNFTP_STOU: case UNFTP_RNFR:
-    case UNFTP_RNTO: case UNFTP_AUTH: case UNFTP_CCC: case UNFTP_PBSZ: case UNFTP_PROT:
-    case UNFTP_SIZE: case UNFTP_REST: case UNFTP_MDTM: case UNFTP_MD5: case UNFTP_OTHER:
-        return answer_not_implemented(control, line);
     case UNFTP_ACCT: case UNFTP_SYST: case UNFTP_NOOP: case UNFTP_QUIT:
-    case UNFTP_DONE: case UNFTP_MORE: case UNFTP_INVALID_COMMAND: case UNFTP_INVALID_UTF8:
-    case UNFTP_INVALID_EOL: case UNFTP_LINE_TOO_LONG: case UNFTP_OUT_OF_MEMORY:
-    case UNFTP_NO_ROOM: case UNFTP_NO_LINE: case UNFTP_MALFORMED: case UNFTP_UNKNOWN_CODE:
-    case UNFTP_INVALID_ARGUMENT: case UNFTP_NO_ADDRESS: case UNFTP_UNKNOWN_PROTOCOL:
-    case UNFTP_REPLY_TOO_LONG:
-        break;
+        return control_usual_reply(control, line);
+    default:
+        /* the results that are no commands come after all that are */
+        return line->event < UNFTP_MORE ? answer_not_implemented(control, line)
+                                        : control_usual_reply(control, line);
     }
-    return control_usual_reply(control, line);
 }
 
 /* Whether this is the password of the name. A server of yours asks its accounts. */
