@@ -515,10 +515,10 @@ enum control_event {
     CONTROL_ANSWER   /* the client is given an answer of the proxy, with this code and text */
 };
 
-/* Whether a command logs in, asks or reads, so that a proxy may send its line on. PORT and EPRT don't,
-   whose address would be the proxy's, nor AUTH, which would end in what nobody can read. Nor does
-   MDTM: some servers take a time before its path, and give it to the file. A command that is not
-   listed doesn't, also one that the library comes to know later. */
+/* Whether a command only logs in, asks or reads, so that a proxy may send its line on. Any other is
+   refused, also one that the library comes to know later. PORT is not sent on, whose address would
+   be the proxy's, nor AUTH, which would end in what nobody can read. Nor is MDTM: some servers take
+   a time before its path, and give it to the file. */
 static inline bool control_only_reads(enum unftp_result command)
 {
     switch (command) {

@@ -42,7 +42,9 @@ def commands():
 
 def verbs_of(variant, word):
     """The verbs of lines that are a command; that of a subcommand is SITE and its word."""
-    found = [verb for verb, it in VERB.findall(code_of("verbs")) if it == variant]
+    canonical, _, others = code_of("verbs").partition("++")
+    found = [word] * bool(re.search(rf"\bverb\.{variant}\b", canonical))
+    found += [verb for verb, it in VERB.findall(others) if it == variant]
     return found or [f"SITE {word}"] * bool(word)
 
 

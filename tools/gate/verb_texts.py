@@ -1,5 +1,5 @@
-"""What is made of the table of verbs: parts of the header, of the crate in Rust, of REFERENCE and of
-tests, each of lines that are alike for all commands."""
+"""What is made of the table of verbs: parts of the header, of the crate in Rust, of REFERENCE and
+of tests, each of lines that are alike for all commands."""
 
 import re
 import textwrap

@@ -48,9 +48,9 @@ impl From<LogLine> for String {
 /// | `NOOP x` | `refused NOOP: Invalid command` |
 ///
 /// A command is its canonical verb, and after a space the value of the line's parameter as the bytes
-/// that were sent, with what is not printable escaped; CR NUL is one CR. Those whose value has a type
-/// of its own, as AUTH and REST, have the value of their command, and SYST and HELP none. The value
-/// of PASS and ACCT is `***`, also an empty one.
+/// that were sent, with what is not printable escaped; CR NUL is one CR. Those whose value has a
+/// type of its own, as AUTH and REST, have the value of their command, and SYST and HELP none. The
+/// value of PASS and ACCT is `***`, also an empty one.
 ///
 /// A verb with no rule of its own may be a mistyped PASS, or a password: it is `***`, unless it is a
 /// word of the registry of FTP's commands (RFC 5797, section 3), ALGS (RFC 6384) or HOST (RFC 7151),
