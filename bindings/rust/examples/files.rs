@@ -13,6 +13,8 @@ const ACCOUNT: (&[u8], &[u8]) = (b"anna", b"secret");
 
 /// Answers lines up to QUIT, or the client's end.
 async fn serve(control: TcpStream, folder: String) -> Result<(), CodecError> {
+    // a client that aborts sends the end of its line as urgent data
+    socket2::SockRef::from(&control).set_out_of_band_inline(true)?;
     let mut server = FtpServer::new(control)?.on_line(|client, line| eprintln!("{client}: {line}"));
     while let Some(request) = server.next().await? {
         match request {

@@ -9,7 +9,8 @@ use unftp_control::{find_extended_port, Command::*, DataPort, Event, FtpProxy, P
 /// How long either side may take to open a data connection.
 const OPENING: Duration = Duration::from_secs(30);
 
-/// Relays a download. One that is cut is reset, so that its file doesn't look whole.
+/// Relays a download, however long it takes. One that is cut is reset, so that its file doesn't look
+/// whole.
 async fn relay_data(mut client: TcpStream, mut server: TcpStream) -> io::Result<()> {
     client.set_linger(Some(Duration::ZERO))?;
     copy(&mut server, &mut client).await?;

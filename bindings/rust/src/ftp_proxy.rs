@@ -5,7 +5,7 @@ use crate::code::ReplyCode;
 use crate::codec::CodecError;
 use crate::error::Error;
 use crate::event::Event;
-use crate::ftp_server::linger;
+use crate::ftp_server::{close, linger};
 use crate::line_codec::{FtpLineCodec, OwnedLine};
 use crate::received::ReceivedReply;
 use crate::reply::Reply;
@@ -34,7 +34,8 @@ const MOST_OWED: u64 = 64;
 ///
 /// Nothing is read that can't be passed on: while a client doesn't read, no reply of the server is
 /// taken, and no line while the server doesn't read, or owes replies to 64 lines. The usual limits
-/// on lines and replies hold.
+/// on lines and replies hold. No call has a limit of time: put `tokio::time::timeout` around
+/// [`next`](FtpProxy::next), and end the session by [`close`](FtpProxy::close).
 ///
 /// It has no TLS and no data connections. So answer AUTH, PORT and EPRT; `examples/proxy.rs` relays
 /// the data connections of EPSV and PASV. Forward only commands that are on a list: others than
@@ -119,8 +120,9 @@ where
     }
 
     /// The next line or reply, once what came before is written. It returns `None` where the server
-    /// ends, after a 421, and where the client has ended and has all of its replies. A call that is
-    /// dropped loses nothing.
+    /// ends, after a 421, and where the client has ended and has all of its replies. Where the server
+    /// ends and still owes a reply, the client gets a 421 of the proxy's. A call that is dropped
+    /// loses nothing.
     ///
     /// # Errors
     ///
@@ -128,7 +130,8 @@ where
     /// 421: the client would take it for the reply to its next line. [`CodecError::Incomplete`]
     /// where either ends within a line or a reply. [`CodecError::Control`] with
     /// [`Error::MalformedReply`], [`Error::ReplyTooLong`] or [`Error::OutOfMemory`], and
-    /// [`CodecError::Io`]. Both connections are to be ended.
+    /// [`CodecError::Io`]. Both connections are to be ended: [`close`](FtpProxy::close) can still
+    /// tell the client.
     pub async fn next(&mut self) -> Result<Option<ProxyEvent<'_, C, S>>, CodecError> {
         match poll_fn(|context| self.poll_taken(context)).await? {
             Taken::Line(line) => Ok(Some(ProxyEvent::Line(ClientLine { proxy: self, line }))),
@@ -142,6 +145,19 @@ where
         }
     }
 
+    /// Ends the session by a last reply to the client, as 421, in place of all that it is owed. It
+    /// waits at most 10 seconds for the client to read and to close. The server gets the end of its
+    /// connection.
+    ///
+    /// # Errors
+    ///
+    /// [`CodecError::Io`], also where the client doesn't read, and [`CodecError::Control`] where
+    /// memory runs out. Both connections are ended all the same.
+    pub async fn close(self, reply: Reply) -> Result<(), CodecError> {
+        drop(self.server);
+        close(self.client, &reply).await
+    }
+
     fn poll_taken(&mut self, context: &mut Context<'_>) -> Poll<Result<Taken, CodecError>> {
         loop {
             self.give_answer()?;
@@ -151,8 +167,13 @@ where
             }
             // before a line is written: a server that has said 421 takes no more
             if to_client.is_ready() {
-                if let Poll::Ready(taken) = Pin::new(&mut self.server).poll_next(context) {
-                    return Poll::Ready(self.reply(taken.transpose()?));
+                match Pin::new(&mut self.server).poll_next(context)? {
+                    Poll::Ready(Some(reply)) => return Poll::Ready(self.reply(reply)),
+                    Poll::Ready(None) => {
+                        self.end()?;
+                        continue;
+                    }
+                    Poll::Pending => {}
                 }
             }
             let to_server = Pin::new(&mut self.server);
@@ -181,11 +202,23 @@ where
         }
     }
 
+    /// Whether the client is owed a reply. An answer that waits does so for one of the server's.
+    fn is_owed(&self) -> bool {
+        !self.server.codec().is_greeted() || self.server.codec().owed() > 0
+    }
+
     fn is_done(&self) -> bool {
-        let server = self.server.codec();
-        // an answer that waits does so for a reply that is owed
-        let is_owed = !server.is_greeted() || server.owed() > 0;
-        self.is_over || self.has_client_ended && !is_owed
+        self.is_over || self.has_client_ended && !self.is_owed()
+    }
+
+    /// Takes the server's end.
+    fn end(&mut self) -> Result<(), Error> {
+        self.is_over = true;
+        if !self.is_owed() {
+            return Ok(());
+        }
+        let ended = Reply::new(ReplyCode::SERVICE_NOT_AVAILABLE, "The server has ended");
+        ended.encode(self.client.write_buffer_mut())
     }
 
     fn takes_lines(&self) -> bool {
@@ -202,11 +235,8 @@ where
     }
 
     /// Takes a reply, which the client gets unless it is replaced.
-    fn reply(&mut self, taken: Option<ClientReply<'static>>) -> Result<Taken, CodecError> {
-        let Some(ClientReply { to, reply }) = taken else {
-            self.is_over = true;
-            return Ok(Taken::End);
-        };
+    fn reply(&mut self, taken: ClientReply<'static>) -> Result<Taken, CodecError> {
+        let ClientReply { to, reply } = taken;
         self.is_over = reply.code() == ReplyCode::SERVICE_NOT_AVAILABLE.get();
         let to = match (self.server.codec_mut().reply_value(), to) {
             (Some(ReplyValue::Final(line)), _) => To::Command(line),
@@ -226,7 +256,8 @@ impl<C, S: AsyncWrite + Unpin> ClientLine<'_, C, S> {
     ///
     /// # Errors
     ///
-    /// [`CodecError::Control`] with [`Error::OutOfMemory`] or [`Error::TooManyCommands`].
+    /// [`CodecError::Control`] with [`Error::OutOfMemory`] or [`Error::TooManyCommands`]. Nothing is
+    /// sent, and the line gets its usual reply.
     pub fn forward(self) -> Result<(), CodecError> {
         match self.line.event {
             Event::Refused(refusal) => self.answer(refusal.reply()),
@@ -242,8 +273,8 @@ impl<C, S: AsyncWrite + Unpin> ClientLine<'_, C, S> {
     ///
     /// # Errors
     ///
-    /// Those of [`forward`](ClientLine::forward). [`Error::NotALine`] where the bytes are not one
-    /// line: nothing is sent, and the client's line gets its usual reply.
+    /// Those of [`forward`](ClientLine::forward), and [`Error::NotALine`] where the bytes are not one
+    /// line, in the same way.
     pub fn forward_as(self, line: &[u8]) -> Result<(), CodecError> {
         let sent = match forward(line) {
             Ok(sent) if sent.is_clear => sent.bytes,

@@ -26,6 +26,10 @@ use tokio_util::codec::Framed;
 /// How long a client may take to open a data connection, unless the server says otherwise.
 const OPENING: Duration = Duration::from_secs(30);
 
+/// How long a client may take to read a reply, or either end of a transfer to pass a piece, unless
+/// the server says otherwise.
+const STALL: Duration = Duration::from_secs(300);
+
 /// How long a client may take to read the last reply and to close.
 const LINGER: Duration = Duration::from_secs(5);
 
@@ -43,9 +47,16 @@ const PIECE: usize = 65_536;
 /// reply: a line by its [usual reply](Event::usual_reply), a login by 530, and a transfer that had
 /// begun by 426.
 ///
-/// A transfer is made before the next line is read, so that an ABOR comes after it. Only
-/// [opening](FtpServer::with_opening_time) a data connection has a limit: `tokio::time::timeout`
-/// around a call bounds it. A call that is dropped loses no line and no reply.
+/// A transfer is made before the next line is read. So an ABOR comes after it, which is answered by
+/// 226, and what is prepared is closed. Its line feed may come as urgent data: `examples/files.rs`
+/// takes it in line.
+///
+/// There are limits on [opening](FtpServer::with_opening_time) a data connection, and on one or a
+/// client that [stalls](FtpServer::with_stall_time). None is on the time up to the next line:
+/// [`close`](FtpServer::close) shows it. A call that is dropped loses no line and no reply.
+///
+/// There is no TLS, and no second session after REIN: give AUTH and REIN their usual reply, 502.
+/// Both come as a [`Request::Line`]. AUTH flushes the login all the same, as [`Login`] says.
 ///
 /// ```
 /// use tokio::fs::File;
@@ -77,10 +88,14 @@ pub struct FtpServer {
     login: Login,
     data_port: DataPort,
     opening: Duration,
-    on_line: Option<fn(IpAddr, LogLine)>,
+    stall: Duration,
+    on_line: Option<OnLine>,
     owed: Owed,
     has_quit: bool,
 }
+
+/// What the program is called with for each line.
+type OnLine = Box<dyn FnMut(IpAddr, LogLine) + Send + Sync>;
 
 /// What the client gets where the program sends no reply.
 enum Owed {
@@ -131,10 +146,10 @@ pub enum Transfer {
     NoFile(io::Error),
     /// No data connection was prepared, or it could not be opened: 425.
     NoConnection(io::Error),
-    /// The data connection broke: 426. Of a file that is received, the bytes before that are
-    /// written.
+    /// The data connection broke or stalled: 426. Of a file that is received, the bytes before that
+    /// are written.
     ConnectionLost(io::Error),
-    /// The file could not be read or written, or one to receive not be opened: 451.
+    /// The file could not be read or written or stalled, or one to receive not be opened: 451.
     FileFault(io::Error),
 }
 
@@ -152,6 +167,7 @@ impl FtpServer {
             login: Login::new(),
             data_port,
             opening: OPENING,
+            stall: STALL,
             on_line: None,
             owed: Owed::Reply(Reply::new(ReplyCode::SERVICE_READY, "Ready")),
             has_quit: false,
@@ -176,6 +192,13 @@ impl FtpServer {
         FtpServer { opening: limit, ..self }
     }
 
+    /// Lets a client take so long to read a reply, and either end of a transfer to pass the next
+    /// piece, of up to 64 KiB, in place of 5 minutes. After that a transfer ends, by 426 or by 451,
+    /// and a call that sends a reply returns [`CodecError::Io`] with [`ErrorKind::TimedOut`].
+    pub fn with_stall_time(self, limit: Duration) -> FtpServer {
+        FtpServer { stall: limit, ..self }
+    }
+
     /// Sets up the data port, as by [`DataPort::with_ports`] or [`DataPort::on_foreign_peer`].
     ///
     /// ```
@@ -190,8 +213,8 @@ impl FtpServer {
 
     /// Calls this with the client's address and what a log may show of each line, before that is
     /// answered.
-    pub fn on_line(self, call: fn(IpAddr, LogLine)) -> FtpServer {
-        FtpServer { on_line: Some(call), ..self }
+    pub fn on_line(self, call: impl FnMut(IpAddr, LogLine) + Send + Sync + 'static) -> FtpServer {
+        FtpServer { on_line: Some(Box::new(call)), ..self }
     }
 
     /// The client's address: that of IPv4 where it is IPv4-mapped.
@@ -217,8 +240,8 @@ impl FtpServer {
             let control = &mut self.control;
             let line = poll_fn(|context| Pin::new(&mut *control).poll_next(context)).await;
             let Some(line) = line.transpose()? else { return Ok(None) };
-            if let Some(call) = self.on_line {
-                call(self.client(), line.log_line()?);
+            if let Some(call) = &mut self.on_line {
+                call(self.data_port.client(), line.log_line()?);
             }
             let answered = match self.login.event(&line.event) {
                 LoginStep::AskAccounts { name, password } => {
@@ -238,7 +261,7 @@ impl FtpServer {
     }
 
     /// Ends the session by a last reply in place of any that is owed, as 421 to a client that is idle
-    /// too long.
+    /// too long. It waits at most 10 seconds for the client to read and to close.
     ///
     /// ```
     /// use std::time::Duration;
@@ -262,20 +285,24 @@ impl FtpServer {
     ///
     /// # Errors
     ///
-    /// [`CodecError::Io`], and [`CodecError::Control`] where memory runs out.
-    pub async fn close(mut self, reply: Reply) -> Result<(), CodecError> {
-        self.put(&reply)?;
-        self.flush().await?;
-        linger(self.control.get_mut()).await;
-        Ok(())
+    /// [`CodecError::Io`], also where the client doesn't read, and [`CodecError::Control`] where
+    /// memory runs out. The connection is ended all the same.
+    pub async fn close(self, reply: Reply) -> Result<(), CodecError> {
+        close(self.control, &reply).await
     }
 
     /// The reply to a line for which no program is needed.
     fn answer(&mut self, line: &OwnedLine) -> Option<Reply> {
-        self.has_quit = line.event == Event::Command(Command::Quit);
-        match self.has_quit {
-            true => Some(line.event.usual_reply()),
-            false => self.data_port.answer(line),
+        match &line.event {
+            Event::Command(Command::Quit) => {
+                self.has_quit = true;
+                Some(line.event.usual_reply())
+            }
+            Event::Command(Command::Abor) => {
+                self.data_port.close();
+                Some(Reply::new(ReplyCode::CLOSING_DATA_CONNECTION, "No transfer is under way"))
+            }
+            _ => self.data_port.answer(line),
         }
     }
 
@@ -295,7 +322,7 @@ impl FtpServer {
     }
 
     async fn flush(&mut self) -> Result<(), CodecError> {
-        poll_fn(|context| Pin::new(&mut self.control).poll_flush(context)).await
+        flush(&mut self.control, self.stall).await
     }
 
     /// Sends the final reply to a request.
@@ -332,7 +359,8 @@ impl LoginRequest<'_> {
     ///
     /// # Errors
     ///
-    /// [`CodecError::Io`], and [`CodecError::Control`] where memory runs out.
+    /// [`CodecError::Io`], and [`CodecError::Control`] where memory runs out. The connection is to be
+    /// ended.
     pub async fn answer(self, accepted: bool) -> Result<(), CodecError> {
         self.server.data_port.close();
         let reply = self.server.login.answer(accepted);
@@ -351,8 +379,8 @@ impl LineRequest<'_> {
     /// # Errors
     ///
     /// [`Error::OutOfOrder`] where the code is from 100 to 199: another reply would have to follow.
-    /// It is not sent, and the line gets its usual reply. [`CodecError::Io`], and
-    /// [`CodecError::Control`] where memory runs out.
+    /// It is not sent, and the line gets its usual reply. At [`CodecError::Io`], and at any other
+    /// [`CodecError::Control`], where memory runs out, the connection is to be ended.
     pub async fn reply(self, reply: Reply) -> Result<(), CodecError> {
         if reply.is_preliminary() {
             return Err(Error::OutOfOrder.into());
@@ -364,7 +392,8 @@ impl LineRequest<'_> {
     ///
     /// # Errors
     ///
-    /// [`CodecError::Io`], and [`CodecError::Control`] where memory runs out.
+    /// [`CodecError::Io`], and [`CodecError::Control`] where memory runs out. The connection is to be
+    /// ended.
     pub async fn reply_usual(self) -> Result<(), CodecError> {
         self.server.finish(&self.line.event.usual_reply()).await
     }
@@ -378,13 +407,14 @@ impl LineRequest<'_> {
     /// | 425 | no data connection is prepared, or it can't be opened |
     /// | 150, 425 | the client doesn't open it in time, or refuses it |
     /// | 150, 226 | all was sent, and the data connection is shut down |
-    /// | 150, 426 | the data connection broke |
-    /// | 150, 451 | the file can't be read to its end |
+    /// | 150, 426 | the data connection broke or stalled |
+    /// | 150, 451 | the file can't be read to its end, or stalled |
     ///
     /// # Errors
     ///
     /// [`CodecError::Io`] of the control connection, and [`CodecError::Control`] where memory runs
-    /// out. All that fails of the file or the data connection is a [`Transfer`].
+    /// out: the connection is to be ended. All that fails of the file or the data connection is a
+    /// [`Transfer`].
     pub async fn send_data<R: AsyncRead + Unpin>(
         self,
         opening: impl Future<Output = io::Result<R>>,
@@ -394,7 +424,7 @@ impl LineRequest<'_> {
             Err(error) => Transfer::NoFile(error),
             Ok(mut file) => match self.server.open_data().await? {
                 Err(error) => Transfer::NoConnection(error),
-                Ok(mut data) => send(&mut file, &mut data).await,
+                Ok(mut data) => send(&mut file, &mut data, self.server.stall).await,
             },
         };
         self.server.finish_transfer(transfer).await
@@ -409,8 +439,8 @@ impl LineRequest<'_> {
     /// | 425 | no data connection is prepared, or it can't be opened |
     /// | 150, 425 | the client doesn't open it in time, or refuses it |
     /// | 150, 226 | the client has ended the data, and all is written |
-    /// | 150, 426 | the data connection broke |
-    /// | 150, 451 | the file can't be opened or written |
+    /// | 150, 426 | the data connection broke or stalled |
+    /// | 150, 451 | the file can't be opened or written, or stalled |
     ///
     /// # Errors
     ///
@@ -424,7 +454,7 @@ impl LineRequest<'_> {
             Err(error) => Transfer::NoConnection(error),
             Ok(mut data) => match opening.await {
                 Err(error) => Transfer::FileFault(error),
-                Ok(mut file) => receive(&mut data, &mut file).await,
+                Ok(mut file) => receive(&mut data, &mut file, self.server.stall).await,
             },
         };
         self.server.finish_transfer(transfer).await
@@ -447,6 +477,26 @@ impl Transfer {
     }
 }
 
+/// Writes a last reply, and ends the connection.
+pub(crate) async fn close<C: AsyncRead + AsyncWrite + Unpin>(
+    mut control: Framed<C, FtpLineCodec>,
+    reply: &Reply,
+) -> Result<(), CodecError> {
+    reply.encode(control.write_buffer_mut())?;
+    flush(&mut control, LINGER).await?;
+    linger(control.get_mut()).await;
+    Ok(())
+}
+
+/// Writes what is there, to a client that reads it in time.
+async fn flush<C: AsyncWrite + Unpin>(
+    control: &mut Framed<C, FtpLineCodec>,
+    limit: Duration,
+) -> Result<(), CodecError> {
+    let flushed = poll_fn(|context| Pin::new(&mut *control).poll_flush(context));
+    timeout(limit, flushed).await.map_err(io::Error::from)?
+}
+
 /// Ends a connection whose last reply is written. To close over unread bytes would reset it, and that
 /// reply may be lost: what the client still sends is read and dropped.
 pub(crate) async fn linger(control: &mut (impl AsyncRead + AsyncWrite + Unpin)) {
@@ -459,8 +509,12 @@ pub(crate) async fn linger(control: &mut (impl AsyncRead + AsyncWrite + Unpin)) 
 }
 
 /// Sends a file, and shuts the data connection down.
-async fn send(file: &mut (impl AsyncRead + Unpin), data: &mut TcpStream) -> Transfer {
-    let bytes = match pass(file, data).await {
+async fn send(
+    file: &mut (impl AsyncRead + Unpin),
+    data: &mut TcpStream,
+    stall: Duration,
+) -> Transfer {
+    let bytes = match pass(file, data, stall).await {
         Ok(bytes) => bytes,
         Err(Fault::Reading(error)) => return Transfer::FileFault(error),
         Err(Fault::Writing(error)) => return Transfer::ConnectionLost(error),
@@ -472,8 +526,12 @@ async fn send(file: &mut (impl AsyncRead + Unpin), data: &mut TcpStream) -> Tran
 }
 
 /// Receives a file, and shuts it down, also one that is cut.
-async fn receive(data: &mut TcpStream, file: &mut (impl AsyncWrite + Unpin)) -> Transfer {
-    let passed = pass(data, file).await;
+async fn receive(
+    data: &mut TcpStream,
+    file: &mut (impl AsyncWrite + Unpin),
+    stall: Duration,
+) -> Transfer {
+    let passed = pass(data, file, stall).await;
     match (passed, file.shutdown().await) {
         (Err(Fault::Writing(error)), _) | (_, Err(error)) => Transfer::FileFault(error),
         (Err(Fault::Reading(error)), Ok(())) => Transfer::ConnectionLost(error),
@@ -488,20 +546,25 @@ enum Fault {
 }
 
 /// Passes all bytes on, and returns how many. `tokio::io::copy` doesn't say which end failed.
-async fn pass<R, W>(from: &mut R, to: &mut W) -> Result<u64, Fault>
+async fn pass<R, W>(from: &mut R, to: &mut W, stall: Duration) -> Result<u64, Fault>
 where
     R: AsyncRead + Unpin,
     W: AsyncWrite + Unpin,
 {
     let (mut piece, mut bytes) = (vec![0; PIECE], 0);
     loop {
-        let count = from.read(&mut piece).await.map_err(Fault::Reading)?;
+        let count = within(stall, from.read(&mut piece)).await.map_err(Fault::Reading)?;
         if count == 0 {
             return Ok(bytes);
         }
-        to.write_all(&piece[..count]).await.map_err(Fault::Writing)?;
+        within(stall, to.write_all(&piece[..count])).await.map_err(Fault::Writing)?;
         bytes += count as u64;
     }
+}
+
+/// What a call returns, or [`ErrorKind::TimedOut`] after that time.
+async fn within<T>(limit: Duration, call: impl Future<Output = io::Result<T>>) -> io::Result<T> {
+    timeout(limit, call).await?
 }
 
 /// Shows who the client is, and nothing of what was sent.

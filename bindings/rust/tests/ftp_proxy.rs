@@ -114,8 +114,10 @@ async fn an_answer_comes_after_the_final_reply() -> Result<(), CodecError> {
     server.write_all(b"631 \xfe\r\n").await?;
     wants(&mut client, b"631 \xfe\r\n502 Not allowed\r\n").await?;
     wants(&mut server, b"NOOP\r\n").await?;
-    drop((server, client));
-    relaying.await.expect("no panic")
+    drop((client, server));
+    // the 421 that the client is owed has no reader
+    assert!(matches!(relaying.await.expect("no panic"), Err(CodecError::Io(_))));
+    Ok(())
 }
 
 #[tokio::test]
@@ -131,6 +133,49 @@ async fn a_421_is_passed_on_and_is_the_end() -> Result<(), CodecError> {
         relaying.await.expect("no panic")?;
     }
     Ok(())
+}
+
+// RFC 959, section 4.2.2
+#[tokio::test]
+async fn a_server_that_ends_owing_a_reply_is_421() -> Result<(), CodecError> {
+    let greeting = "220 Ready\r\n";
+    let cases = [
+        ("", "", "421"),
+        (greeting, "", "220"),
+        (greeting, "NOOP\r\n", "220 421"),
+        ("220 Ready\r\n150 Opening\r\n", "RETR a\r\nDELE b\r\nNOOP\r\n", "220 150 421"),
+    ];
+    for (replies, lines, codes) in cases {
+        let (mut client, mut server, relaying) = relayed(4096);
+        client.write_all(lines.as_bytes()).await?;
+        let first = lines.split_inclusive('\n').next().unwrap_or_default();
+        wants(&mut server, first.as_bytes()).await?;
+        server.write_all(replies.as_bytes()).await?;
+        drop(server);
+        let found = all(&mut client).await?;
+        let found: Vec<&str> = found.lines().map(|line| &line[..3]).collect();
+        assert_eq!(found.join(" "), codes);
+        drop(client);
+        relaying.await.expect("no panic")?;
+    }
+    Ok(())
+}
+
+#[tokio::test]
+async fn a_last_reply_is_in_place_of_those_owed() -> Result<(), CodecError> {
+    let (mut client, mut proxy, mut server) = proxy(4096);
+    client.write_all(b"NOOP\r\nDELE a\r\nPW").await?;
+    server.write_all(b"220 Ready\r\n").await?;
+    next!(proxy, Reply).pass_on();
+    next!(proxy, Line).forward()?;
+    next!(proxy, Line).answer(not_allowed())?;
+    assert!(timeout(MOMENT, proxy.next()).await.is_err());
+    let late = Reply::new(ReplyCode::SERVICE_NOT_AVAILABLE, "Idle too long");
+    let closing = tokio::spawn(proxy.close(late));
+    assert_eq!(all(&mut client).await?, "220 Ready\r\n421 Idle too long\r\n");
+    assert_eq!(all(&mut server).await?, "NOOP\r\n");
+    drop(client);
+    closing.await.expect("no panic")
 }
 
 #[tokio::test]

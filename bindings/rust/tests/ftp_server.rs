@@ -7,12 +7,12 @@ use std::io::{self, ErrorKind};
 use std::net::{IpAddr, Ipv4Addr, SocketAddr};
 use std::path::PathBuf;
 use std::pin::Pin;
-use std::sync::Mutex;
+use std::sync::{Arc, Mutex};
 use std::task::{Context, Poll};
 use std::time::Duration;
 use tokio::fs::File;
+use tokio::io::{duplex, BufReader, BufWriter, ReadBuf};
 use tokio::io::{AsyncBufReadExt, AsyncRead, AsyncReadExt, AsyncWrite, AsyncWriteExt};
-use tokio::io::{BufReader, BufWriter, ReadBuf};
 use tokio::net::{TcpListener, TcpSocket, TcpStream};
 use tokio::task::JoinHandle;
 use tokio::time::{sleep, timeout};
@@ -98,7 +98,7 @@ async fn pair() -> io::Result<(Client, FtpServer)> {
 type Ended = JoinHandle<Result<Vec<String>, CodecError>>;
 
 /// A client of a server that answers by `answer`.
-async fn served(set_up: fn(FtpServer) -> FtpServer) -> io::Result<(Client, Ended)> {
+async fn served(set_up: impl FnOnce(FtpServer) -> FtpServer) -> io::Result<(Client, Ended)> {
     let (client, server) = pair().await?;
     Ok((client, tokio::spawn(serve(set_up(server)))))
 }
@@ -138,6 +138,10 @@ async fn answer(request: LineRequest<'_>) -> Result<Option<Transfer>, CodecError
         }
         "faulty" => request.receive_data(ready(Ok(Faulty))).await?,
         "much" => request.send_data(ready(Ok(&*much()))).await?,
+        "stalled" => {
+            let (file, _end) = duplex(1);
+            request.send_data(ready(Ok(file))).await?
+        }
         path => request.receive_data(File::create(path)).await?,
     };
     Ok(Some(transfer))
@@ -294,13 +298,15 @@ async fn a_call_that_is_dropped_loses_no_line() -> Result<(), CodecError> {
     Ok(())
 }
 
-static LOGGED: Mutex<Vec<String>> = Mutex::new(Vec::new());
-
 #[tokio::test]
 async fn options_are_those_that_were_set() -> io::Result<()> {
+    let logged = Arc::new(Mutex::new(Vec::new()));
+    let lines = logged.clone();
     let (mut client, ended) = served(|server| {
         let named = Ipv4Addr::new(192, 0, 2, 7);
-        let log = |client, line| LOGGED.lock().expect("no panic").push(format!("{client}: {line}"));
+        let log = move |client, line| {
+            lines.lock().expect("no panic").push(format!("{client}: {line}"));
+        };
         let server = server.with_data_port(|data_port| data_port.with_public_address(named));
         server.with_line_limit(20).on_line(log)
     })
@@ -314,8 +320,8 @@ async fn options_are_those_that_were_set() -> io::Result<()> {
     drop(client);
     ended.await?.expect("no error");
     let lines = ["USER anna", "PASS ***", "PASV", "refused: Line too long", "QUIT"];
-    let logged = lines.map(|line| format!("127.0.0.1: {line}"));
-    assert_eq!(*LOGGED.lock().expect("no panic"), logged);
+    let lines = lines.map(|line| format!("127.0.0.1: {line}"));
+    assert_eq!(*logged.lock().expect("no panic"), lines);
     Ok(())
 }
 
@@ -380,6 +386,63 @@ async fn a_data_connection_that_breaks_is_426() -> io::Result<()> {
     assert_eq!(client.codes(2).await?, ["257", "221"]);
     drop(client);
     assert_eq!(ended.await?.expect("no error"), ["connection lost"; 2]);
+    Ok(())
+}
+
+// RFC 959, section 4.1.3
+#[tokio::test]
+async fn abor_closes_what_is_prepared() -> io::Result<()> {
+    let (mut client, ended) = served(|server| server).await?;
+    client.send(["ABOR\r\n", LOGIN, "EPSV\r\nABOR\r\nRETR much\r\nQUIT\r\n"].concat()).await?;
+    let codes = ["220", "530", "331", "230", "229", "226", "425", "221"];
+    assert_eq!(client.all_codes().await?, codes);
+    drop(client);
+    assert_eq!(ended.await?.expect("no error"), ["no connection"]);
+    Ok(())
+}
+
+#[tokio::test]
+async fn a_transfer_that_stalls_ends() -> io::Result<()> {
+    let (mut client, ended) = served(|server| server.with_stall_time(MOMENT)).await?;
+    client.log_in().await?;
+    let path = temporary("stalled");
+    let lines = [format!("STOR {}\r\n", path.display()), "RETR much\r\n".into()];
+    for line in lines {
+        let _data = client.data().await?;
+        client.send(&line).await?;
+        assert_eq!(client.codes(2).await?, ["150", "426"], "{line}");
+    }
+    std::fs::remove_file(path)?;
+    let _data = client.data().await?;
+    client.send("RETR stalled\r\nQUIT\r\n").await?;
+    assert_eq!(client.codes(3).await?, ["150", "451", "221"]);
+    drop(client);
+    let lost = "connection lost";
+    assert_eq!(ended.await?.expect("no error"), [lost, lost, "file fault"]);
+    Ok(())
+}
+
+#[tokio::test]
+async fn a_client_that_does_not_read_is_ended() -> Result<(), CodecError> {
+    let is_late = |error: &CodecError| match error {
+        CodecError::Io(error) => error.kind() == ErrorKind::TimedOut,
+        _ => false,
+    };
+    let (mut client, server) = pair().await?;
+    let mut server = server.with_stall_time(MOMENT);
+    client.send("NOOP\r\n".repeat(1000)).await?;
+    let text = "a".repeat(60_000);
+    let error = loop {
+        let Some(Request::Line(request)) = server.next().await? else { panic!("NOOP") };
+        let long = Reply::new(ReplyCode::COMMAND_OKAY, text.clone());
+        if let Err(error) = request.reply(long).await {
+            break error;
+        }
+    };
+    assert!(is_late(&error), "{error}");
+    let late = Reply::new(ReplyCode::SERVICE_NOT_AVAILABLE, "Idle too long");
+    let closed = timeout(PATIENCE, server.close(late)).await.map_err(io::Error::from)?;
+    assert!(closed.is_err_and(|error| is_late(&error)));
     Ok(())
 }
 
