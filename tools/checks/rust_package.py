@@ -72,14 +72,17 @@ RUST = TOP / "bindings/rust"
 # what other packages may use of a source: nothing else is declared pub, which a lint of the package sees to
 PUBLIC = re.compile(r"^ *(?:#\[cfg\((?P<feature>.*)\)\]\n *)?(?P<item>pub (?:(?:async )?fn|struct|enum|trait) [^{;]*|pub (?:const|type|use) [^{;=]*|pub \w+: [^,\n]*|(?:unsafe )?impl\b[^{;]* for (?:\[[^]]*\]|[^{;[])*)", re.M)
 HIDDEN = re.compile(r"^pub use ")
+INNER = re.compile(r"^pub\(crate\) struct (\w+)", re.M)
 
 
 def public_items():
     """The items that are public, with the file that each is in."""
     for path in sorted((RUST / "src").glob("*.rs")):
-        for found in PUBLIC.finditer(path.read_text(encoding="utf-8")):
+        text = path.read_text(encoding="utf-8")
+        inner = tuple(f" for {name}" for name in INNER.findall(text))
+        for found in PUBLIC.finditer(text):
             item = " ".join(found["item"].split())
-            if not HIDDEN.match(item) or path.name == "lib.rs":
+            if not item.endswith(inner) and (not HIDDEN.match(item) or path.name == "lib.rs"):
                 yield f"{path.stem}: {item}" + (f" [{found['feature']}]" if found["feature"] else "")
 
 
@@ -421,6 +424,7 @@ def wants_transfers(host, port, folder, content):
         wants("the code of RETR without a data connection", refused_code(client, "RETR new"), "425")
         if host != HOST:
             wants("the code of PASV", refused_code(client, "PASV"), "425")
+        wants("the code of an ABOR whose end is urgent", client.abort()[:3], "226")
         client.set_pasv(False)
         wants("the names, in active mode", sorted(client.nlst()), names)
         wants("the code of an address of another", refused_code(client, "PORT 192,0,2,7,4,1"), "504")

@@ -2,6 +2,7 @@ use crate::bytes::{Password, RawBytes};
 use crate::code::ReplyCode;
 use crate::codec::CodecError;
 use crate::command::Command;
+use crate::control_stream::ControlStream;
 use crate::data_port::DataPort;
 use crate::error::Error;
 use crate::event::Event;
@@ -48,8 +49,8 @@ const PIECE: usize = 65_536;
 /// begun by 426.
 ///
 /// A transfer is made before the next line is read. So an ABOR comes after it, which is answered by
-/// 226, and what is prepared is closed. Its line feed may come as urgent data: `examples/files.rs`
-/// takes it in line.
+/// 226, and what is prepared is closed. Its line feed may come as urgent data, which is read where
+/// the program has set `SO_OOBINLINE` of the stream, as `examples/files.rs` does.
 ///
 /// There are limits on [opening](FtpServer::with_opening_time) a data connection, and on one or a
 /// client that [stalls](FtpServer::with_stall_time). None is on the time up to the next line:
@@ -84,7 +85,7 @@ const PIECE: usize = 65_536;
 /// }
 /// ```
 pub struct FtpServer {
-    control: Framed<TcpStream, FtpLineCodec>,
+    control: Framed<ControlStream, FtpLineCodec>,
     login: Login,
     data_port: DataPort,
     opening: Duration,
@@ -163,7 +164,7 @@ impl FtpServer {
     pub fn new(control: TcpStream) -> io::Result<FtpServer> {
         let data_port = DataPort::new(control.peer_addr()?, control.local_addr()?);
         Ok(FtpServer {
-            control: Framed::new(control, FtpLineCodec::new()),
+            control: Framed::new(ControlStream(control), FtpLineCodec::new()),
             login: Login::new(),
             data_port,
             opening: OPENING,

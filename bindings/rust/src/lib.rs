@@ -133,6 +133,8 @@ mod code;
 mod codec;
 mod command;
 #[cfg(feature = "tokio-util")]
+mod control_stream;
+#[cfg(feature = "tokio-util")]
 mod data_port;
 mod error;
 mod event;

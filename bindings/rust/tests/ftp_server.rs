@@ -91,7 +91,9 @@ async fn connect(from: IpAddr, to: SocketAddr) -> io::Result<TcpStream> {
 async fn pair() -> io::Result<(Client, FtpServer)> {
     let listener = TcpListener::bind((HOST, 0)).await?;
     let client = TcpStream::connect(listener.local_addr()?).await?;
-    Ok((Client(BufReader::new(client)), FtpServer::new(listener.accept().await?.0)?))
+    let (control, _) = listener.accept().await?;
+    socket2::SockRef::from(&control).set_out_of_band_inline(true)?;
+    Ok((Client(BufReader::new(client)), FtpServer::new(control)?))
 }
 
 /// How the transfers ended.
@@ -398,6 +400,20 @@ async fn abor_closes_what_is_prepared() -> io::Result<()> {
     assert_eq!(client.all_codes().await?, codes);
     drop(client);
     assert_eq!(ended.await?.expect("no error"), ["no connection"]);
+    Ok(())
+}
+
+// RFC 959, section 4.1.3: ftplib sends the line feed of an ABOR as urgent data
+#[tokio::test]
+async fn the_end_of_an_abor_may_be_urgent() -> io::Result<()> {
+    let (mut client, _) = served(|server| server).await?;
+    client.log_in().await?;
+    for _ in 0..20 {
+        socket2::SockRef::from(client.0.get_ref()).send_out_of_band(b"ABOR\r\n")?;
+        assert_eq!(client.codes(1).await?, ["226"]);
+        client.send("NOOP\r\n").await?;
+        assert_eq!(client.codes(1).await?, ["200"]);
+    }
     Ok(())
 }
 
