@@ -72,7 +72,7 @@ RUST = TOP / "bindings/rust"
 # what other packages may use of a source: nothing else is declared pub, which a lint of the package sees to
 PUBLIC = re.compile(r"^ *(?:#\[cfg\((?P<feature>.*)\)\]\n *)?(?P<item>pub (?:(?:async )?fn|struct|enum|trait) [^{;]*|pub (?:const|type|use) [^{;=]*|pub \w+: [^,\n]*|(?:unsafe )?impl\b[^{;]* for (?:\[[^]]*\]|[^{;[])*)", re.M)
 HIDDEN = re.compile(r"^pub use ")
-INNER = re.compile(r"^pub\(crate\) struct (\w+)", re.M)
+INNER = re.compile(r"^(?:pub\(crate\) )?struct (\w+)", re.M)
 
 
 def public_items():

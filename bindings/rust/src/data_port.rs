@@ -6,6 +6,7 @@ use crate::event::Event;
 use crate::line_codec::OwnedLine;
 use crate::reply::Reply;
 use std::collections::hash_map::RandomState;
+use std::fmt::{self, Debug, Formatter};
 use std::future::Future;
 use std::hash::{BuildHasher, Hasher};
 use std::io::{self, ErrorKind};
@@ -13,6 +14,7 @@ use std::mem;
 use std::net::{self, IpAddr, Ipv4Addr, SocketAddr, SocketAddrV4};
 use std::ops::RangeInclusive;
 use std::os::fd::AsRawFd;
+use std::sync::Arc;
 use std::time::Duration;
 use tokio::io::unix::AsyncFd;
 use tokio::io::Interest;
@@ -119,8 +121,11 @@ impl DataPort {
 
     /// Calls this with the address of each data connection that is closed since it is not the
     /// client's, as for a log.
-    pub fn on_foreign_peer(mut self, call: fn(SocketAddr)) -> DataPort {
-        self.ends.on_foreign_peer = call;
+    pub fn on_foreign_peer(
+        mut self,
+        call: impl Fn(SocketAddr) + Send + Sync + 'static,
+    ) -> DataPort {
+        self.ends.on_foreign_peer = OnForeignPeer(Arc::new(call));
         self
     }
 
@@ -265,7 +270,7 @@ impl DataPort {
         &mut self,
         limit: Duration,
     ) -> impl Future<Output = io::Result<net::TcpStream>> {
-        let (next, ends) = (mem::take(&mut self.next), self.ends);
+        let (next, ends) = (mem::take(&mut self.next), self.ends.clone());
         async move { timeout(limit, ends.open(next)).await? }
     }
 
@@ -327,13 +332,23 @@ impl DataPort {
 }
 
 /// The addresses of a control connection, and so of its data connections.
-#[derive(Clone, Copy, Debug)]
+#[derive(Clone, Debug)]
 struct Ends {
     client: IpAddr,
     server: IpAddr,
     /// The interface, where the addresses are link-local ones of IPv6.
     scope: u32,
-    on_foreign_peer: fn(SocketAddr),
+    on_foreign_peer: OnForeignPeer,
+}
+
+/// What is called with the address of a connection that is closed.
+#[derive(Clone)]
+struct OnForeignPeer(Arc<dyn Fn(SocketAddr) + Send + Sync>);
+
+impl Debug for OnForeignPeer {
+    fn fmt(&self, f: &mut Formatter<'_>) -> fmt::Result {
+        f.debug_struct("OnForeignPeer").finish_non_exhaustive()
+    }
 }
 
 impl Ends {
@@ -346,7 +361,7 @@ impl Ends {
             client: unmapped(client.ip()),
             server: unmapped(server.ip()),
             scope,
-            on_foreign_peer: |_| {},
+            on_foreign_peer: OnForeignPeer(Arc::new(|_| {})),
         }
     }
 
@@ -386,7 +401,7 @@ impl Ends {
                     tcp.set_nonblocking(true)?;
                     return Ok(tcp);
                 }
-                Ok((_, peer)) => (self.on_foreign_peer)(peer),
+                Ok((_, peer)) => (self.on_foreign_peer.0)(peer),
                 Err(error) if error.kind() == ErrorKind::WouldBlock => {
                     let waiting = AsyncFd::with_interest(listener.as_raw_fd(), Interest::READABLE)?;
                     drop(waiting.readable().await?);

@@ -4,7 +4,7 @@
 use bytes::BytesMut;
 use std::io::{self, ErrorKind};
 use std::net::{IpAddr, Ipv4Addr, Ipv6Addr, SocketAddr, TcpListener};
-use std::sync::Mutex;
+use std::sync::{Arc, Mutex};
 use std::time::Duration;
 use tokio::io::{AsyncReadExt, AsyncWriteExt};
 use tokio::net::{TcpSocket, TcpStream};
@@ -131,11 +131,11 @@ fn a_range_is_searched_for_a_free_port() {
     assert_eq!(answer(&mut none, "EPSV"), "425 No port is free");
 }
 
-static CLOSED: Mutex<Vec<SocketAddr>> = Mutex::new(Vec::new());
-
 #[tokio::test]
 async fn a_connection_of_another_address_is_closed() -> io::Result<()> {
-    let note = |peer| CLOSED.lock().expect("no panic").push(peer);
+    let closed = Arc::new(Mutex::new(Vec::new()));
+    let noted = closed.clone();
+    let note = move |peer| noted.lock().expect("no panic").push(peer);
     let mut data_port = of(HOST).on_foreign_peer(note);
     let reply = answer(&mut data_port, "PASV");
     let own = find_host_port(reply.as_bytes()).expect("an address").into();
@@ -145,7 +145,7 @@ async fn a_connection_of_another_address_is_closed() -> io::Result<()> {
     assert_eq!(foreign.read(&mut [0]).await?, 0);
     let mut client = connect(HOST, own).await?;
     wants_one_connection(&mut client, &mut opening.await??).await?;
-    assert_eq!(*CLOSED.lock().expect("no panic"), [foreign.local_addr()?]);
+    assert_eq!(*closed.lock().expect("no panic"), [foreign.local_addr()?]);
     Ok(())
 }
 
