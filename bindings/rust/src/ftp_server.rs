@@ -41,23 +41,24 @@ const PIECE: usize = 65_536;
 /// connections. The program has the accounts and the files.
 ///
 /// [`next`](FtpServer::next) answers what needs no program: each line that a [`Login`] answers, the
-/// lines of a [`DataPort`], and QUIT. Each other line is a [`Request`], which the program replies to
-/// by one call. A call takes the request with it, so no line has two final replies.
+/// lines of a [`DataPort`], ABOR and QUIT. Each other line is a [`Request`], which the program
+/// replies to by one call. A call takes the request with it, so no line has two final replies.
 ///
 /// **A request that is dropped is answered too**, by the following `next`, so that each line has its
 /// reply: a line by its [usual reply](Event::usual_reply), a login by 530, and a transfer that had
 /// begun by 426.
 ///
-/// A transfer is made before the next line is read. So an ABOR comes after it, which is answered by
-/// 226, and what is prepared is closed. Its line feed may come as urgent data, which is read where
-/// the program has set `SO_OOBINLINE` of the stream, as `examples/files.rs` does.
+/// A transfer is made before the next line is read. So an ABOR comes after it: it closes a data
+/// connection that is prepared, and is answered by 226 (RFC 959, section 4.1.3). Its line feed may
+/// come as urgent data, which is read where the program has set `SO_OOBINLINE` of the stream, as
+/// `examples/files.rs` does. After Telnet's bytes it is refused.
 ///
-/// There are limits on [opening](FtpServer::with_opening_time) a data connection, and on one or a
-/// client that [stalls](FtpServer::with_stall_time). None is on the time up to the next line:
-/// [`close`](FtpServer::close) shows it. A call that is dropped loses no line and no reply.
+/// A client may take only so long to [open](FtpServer::with_opening_time) a data connection, and may
+/// [stall](FtpServer::with_stall_time) only so long. Nothing limits the time up to its next line:
+/// [`close`](FtpServer::close) shows how to. A call that is dropped loses no line and no reply.
 ///
-/// There is no TLS, and no second session after REIN: give AUTH and REIN their usual reply, 502.
-/// Both come as a [`Request::Line`]. AUTH flushes the login all the same, as [`Login`] says.
+/// There is no TLS and no REIN. AUTH and REIN come as a [`Request::Line`]: give them their usual
+/// reply, 502. AUTH flushes the login all the same, as [`Login`] says.
 ///
 /// ```
 /// use tokio::fs::File;
@@ -262,7 +263,8 @@ impl FtpServer {
     }
 
     /// Ends the session by a last reply in place of any that is owed, as 421 to a client that is idle
-    /// too long. It waits at most 10 seconds for the client to read and to close.
+    /// too long, or in place of the reply to a request that is dropped. It waits at most 10 seconds
+    /// for the client to read and to close. A 421 by [`reply`](LineRequest::reply) ends nothing.
     ///
     /// ```
     /// use std::time::Duration;
