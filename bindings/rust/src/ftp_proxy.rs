@@ -18,6 +18,9 @@ use std::task::{Context, Poll};
 use tokio::io::{AsyncRead, AsyncWrite};
 use tokio_util::codec::Framed;
 
+/// The reply that a server may send where none is asked for (RFC 959, section 4.2.2).
+const SERVICE_NOT_AVAILABLE: u16 = ReplyCode::SERVICE_NOT_AVAILABLE.get();
+
 /// How many lines may be owed a reply. A client that has sent more waits.
 const MOST_OWED: u64 = 64;
 
@@ -92,7 +95,7 @@ pub struct ServerReply<'a, C, S> {
     proxy: &'a mut FtpProxy<C, S>,
     /// What it is to: the greeting, the line that the client sent, or nothing, as a 421 may be.
     pub to: To<OwnedLine>,
-    /// What was received. After a 421 the session is over.
+    /// What was received. After a 221 or a 421 the session is over, also where it is replaced.
     pub reply: ReceivedReply<'static>,
 }
 
@@ -120,9 +123,9 @@ where
     }
 
     /// The next line or reply, once what came before is written. It returns `None` where the server
-    /// ends, after a 421, and where the client has ended and has all of its replies. Where the server
-    /// ends and still owes a reply, the client gets a 421 of the proxy's. A call that is dropped
-    /// loses nothing.
+    /// ends, after a 221 or a 421, and where the client has ended and has all of its replies. Where
+    /// the server ends and still owes a reply, the client gets a 421 of the proxy's. A call that is
+    /// dropped loses nothing.
     ///
     /// # Errors
     ///
@@ -160,7 +163,9 @@ where
 
     fn poll_taken(&mut self, context: &mut Context<'_>) -> Poll<Result<Taken, CodecError>> {
         loop {
-            self.give_answer()?;
+            if !self.is_over {
+                self.give_answer()?;
+            }
             let to_client = Pin::new(&mut self.client).poll_flush(context)?;
             if self.is_done() {
                 return to_client.map(|()| Ok(Taken::End));
@@ -193,6 +198,7 @@ where
     fn give_answer(&mut self) -> Result<(), Error> {
         match self.answer.take() {
             Some(answer) if self.server.codec_mut().answer(answer.code()) => {
+                self.is_over = is_last(answer.code().get());
                 answer.encode(self.client.write_buffer_mut())
             }
             later => {
@@ -237,17 +243,22 @@ where
     /// Takes a reply, which the client gets unless it is replaced.
     fn reply(&mut self, taken: ClientReply<'static>) -> Result<Taken, CodecError> {
         let ClientReply { to, reply } = taken;
-        self.is_over = reply.code() == ReplyCode::SERVICE_NOT_AVAILABLE.get();
+        self.is_over = is_last(reply.code());
         let to = match (self.server.codec_mut().reply_value(), to) {
             (Some(ReplyValue::Final(line)), _) => To::Command(line),
             (Some(ReplyValue::Preliminary(line)), _) => To::Command(line.clone()),
             (None, To::Greeting) => To::Greeting,
-            (None, _) if self.is_over => To::Nothing,
+            (None, _) if reply.code() == SERVICE_NOT_AVAILABLE => To::Nothing,
             (None, _) => return Err(CodecError::Unexpected(reply)),
         };
         self.client.write_buffer_mut().extend_from_slice(reply.bytes());
         Ok(Taken::Reply(ClientReply { to, reply }))
     }
+}
+
+/// Whether the control connection is closed after a reply of this code (RFC 959, section 4.2.2).
+fn is_last(code: u16) -> bool {
+    code == ReplyCode::CLOSING_CONTROL_CONNECTION.get() || code == SERVICE_NOT_AVAILABLE
 }
 
 impl<C, S: AsyncWrite + Unpin> ClientLine<'_, C, S> {

@@ -161,6 +161,31 @@ async fn a_server_that_ends_owing_a_reply_is_421() -> Result<(), CodecError> {
     Ok(())
 }
 
+// RFC 959, section 4.1.1: after QUIT the server closes the control connection
+#[tokio::test]
+async fn a_reply_that_closes_is_the_last() -> Result<(), CodecError> {
+    for end in ["221 Bye\r\n", "421 Stopping\r\n"] {
+        let (mut client, mut server, relaying) = relayed(4096);
+        client.write_all(b"QUIT\r\nDELE a\r\nNOOP\r\n").await?;
+        wants(&mut server, b"QUIT\r\n").await?;
+        let replies = ["220 Ready\r\n", end].concat();
+        server.write_all(replies.as_bytes()).await?;
+        assert_eq!(all(&mut client).await?, replies);
+        drop(client);
+        relaying.await.expect("no panic")?;
+    }
+    let (mut client, mut proxy, mut server) = proxy(4096);
+    server.write_all(b"220 Ready\r\n").await?;
+    next!(proxy, Reply).pass_on();
+    client.write_all(b"QUIT\r\nNOOP\r\n").await?;
+    next!(proxy, Line).answer_usual();
+    let ending = tokio::spawn(async move { is_over(&mut proxy).await });
+    assert_eq!(all(&mut client).await?, "220 Ready\r\n221 Bye\r\n");
+    drop(client);
+    assert!(ending.await.expect("no panic")?);
+    Ok(())
+}
+
 #[tokio::test]
 async fn a_last_reply_is_in_place_of_those_owed() -> Result<(), CodecError> {
     let (mut client, mut proxy, mut server) = proxy(4096);
