@@ -1,7 +1,6 @@
-//! A server of a folder: `files [FOLDER [ADDRESS:PORT]]`. Who logs in by `ACCOUNT` may list, read and
-//! write its files. It follows links. `ftpd`, in `programs`, has users, folders, TLS and limits too.
-use std::time::{Duration, SystemTime};
-use std::{env, ffi::OsStr, io, io::Cursor, os::unix::ffi::OsStrExt, path::Path, process};
+//! A server of a folder: `files [FOLDER [ADDRESS:PORT]]`. Who logs in by `ACCOUNT` may list, read
+//! and write its files. It follows links. `ftpd`, in `programs`, has users, TLS and limits too.
+use std::{env, ffi::OsStr, io, io::Cursor, os::unix::ffi::OsStrExt, path::Path, process, time};
 use tokio::{fs, fs::File, net::TcpListener, net::TcpStream, time::sleep};
 use unftp_control::{
     list_line, CodecError, Command::*, Error, Event, FileStatus, FtpServer, LineRequest, Reply,
@@ -11,9 +10,8 @@ use unftp_control::{
 /// The name and the password that it takes.
 const ACCOUNT: (&[u8], &[u8]) = (b"anna", b"secret");
 
-/// Answers lines up to QUIT, or the client's end.
+/// Answers lines up to QUIT, or the client's end. ABOR may end in urgent data.
 async fn serve(control: TcpStream, folder: String) -> Result<(), CodecError> {
-    // a client that aborts sends the end of its line as urgent data
     socket2::SockRef::from(&control).set_out_of_band_inline(true)?;
     let mut server = FtpServer::new(control)?.on_line(|client, line| eprintln!("{client}: {line}"));
     while let Some(request) = server.next().await? {
@@ -51,7 +49,7 @@ async fn list(folder: &Path, is_long: bool) -> io::Result<Cursor<Vec<u8>>> {
     while let Some(entry) = entries.next_entry().await? {
         let (metadata, name) = (entry.metadata().await?, entry.file_name());
         let file = FileStatus { uid: 0, gid: 0, ..FileStatus::from(&metadata) };
-        match list_line(&file, SystemTime::now(), name.as_bytes()) {
+        match list_line(&file, time::SystemTime::now(), name.as_bytes()) {
             Ok(line) if metadata.is_file() && is_long => lines.extend(line),
             Ok(_) if metadata.is_file() => lines.extend([name.as_bytes(), b"\r\n"].concat()),
             Ok(_) | Err(Error::InvalidName) => {}
@@ -69,7 +67,7 @@ async fn run(folder: &str, place: &str) -> Result<(), String> {
     loop {
         match listener.accept().await {
             Ok((control, _)) => drop(tokio::spawn(serve(control, folder.into()))),
-            Err(_) => sleep(Duration::from_millis(100)).await, // as where no descriptor is left
+            Err(_) => sleep(time::Duration::from_millis(100)).await, // no descriptor is left
         }
     }
 }
