@@ -4,7 +4,7 @@
  *
  * made by: tools/generated --write
  * toolchain: rattle-kit-13f logic dac8208d650f15bf
- * sources: sha256 8df5c27afb2f7e83e978549ee33781a153e939502d7c26e353ee069f193e8d8c
+ * sources: sha256 0e2452dc7e19f5aa4df33d54d27b4b6e0f503cd891c433e923df1ac8840322f6
  */
 	.section	".text.core::slice::reads::slice+T::contains::<i8,31'core::cmp::numbers::U8PartialEq{}>","ax",@progbits
 	.p2align	4

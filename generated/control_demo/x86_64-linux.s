@@ -4,7 +4,7 @@
  *
  * made by: tools/generated --write
  * toolchain: rattle-kit-13f logic dac8208d650f15bf
- * sources: sha256 8617849983ca7b9f21a03364af71b16a5af1e254141159b6d8e703c424ac7323
+ * sources: sha256 5afc2ddb492e0026433c6812e78991e1db29763fe67e7c12bf9a4e0684dd10c8
  */
 	.section	".text.std_io::io::error::Error::from_raw_os_error","ax",@progbits
 	.p2align	4

@@ -4,7 +4,7 @@
  *
  * made by: tools/generated --write
  * toolchain: rattle-kit-13f logic dac8208d650f15bf
- * sources: sha256 9507cc29ef1691510d24ca6483219c6facaa6c687e2f11c57333b4973dbefecf
+ * sources: sha256 321a1e8be29ba4336b4e7156a4e6b20fe60be4da8e89aa2636fbe482f5b99411
  */
 	.section	.rodata.cst16,"aM",@progbits,16
 	.p2align	4, 0x0
