@@ -4,7 +4,7 @@
  *
  * made by: tools/generated --write
  * toolchain: rattle-kit-13f logic dac8208d650f15bf
- * sources: sha256 35d4463034af0d24264b184bf72e9bcc731ab6a65428257ecb5b73901079bdf9
+ * sources: sha256 2fafe4833321a66d2f8487cee613f93906586847b6b44de2f0e498cf4fd4c4ba
  */
 	.section	".text.core::str::utf8::from_utf8","ax",@progbits
 	.p2align	4
