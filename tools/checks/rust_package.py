@@ -16,6 +16,7 @@ usage: tools/checks/rust_package.py codes              the package's codes of re
        tools/checks/rust_package.py stop SERVER        sessions that are open at a signal
        tools/checks/rust_package.py files SERVER       what clients put, list and get over IPv4 and IPv6, and what they may not
        tools/checks/rust_package.py transfer SERVER CLIENT     what this client puts, lists and gets there, and what it says of a refusal
+       tools/checks/rust_package.py in_memory SERVER CLIENT    what ftplib stores in the server of files in memory, and what this client lists and prints of it
        tools/checks/rust_package.py proxy PROXY SERVER     what clients get through the proxy of the server of files, and what they may not
        tools/checks/rust_package.py filter PROXY SERVER    lines through the proxy without data connections of the server of files
        tools/checks/rust_package.py speed SERVER [COUNT [CONNECTIONS]]  NOOPs a second
@@ -574,6 +575,52 @@ def check_transfer(program, client):
     return f"{len(content):,} bytes at {' and '.join(hosts)}"
 
 
+MOST_IN_MEMORY = 1024 * 1024
+
+
+def refusal_of_storing(client, content):
+    """The code of the final reply to an upload that the server refuses, before or after it closes the data connection."""
+    client.voidcmd("TYPE I")
+    with client.transfercmd("STOR large") as data:
+        try:
+            data.sendall(content)
+            data.shutdown(socket.SHUT_WR)
+        except OSError:
+            pass
+    try:
+        return f"{client.voidresp()[:3]}, no refusal"
+    except ftplib.Error as error:
+        return str(error)[:3]
+
+
+def check_in_memory(program, client):
+    """Files are stored, listed, measured, read and deleted. One that is too large isn't kept, and one that is absent is refused."""
+    content = bytes(range(256)) * 1000
+    with StartedServer([program, f"{HOST}:0"], subprocess.DEVNULL) as server, ftplib.FTP(timeout=PATIENCE) as ftp:
+
+        def run(*words):
+            run = subprocess.run([client, HOST, str(server.port), "anna", "secret", *words], capture_output=True, timeout=PATIENCE)
+            return run.returncode, run.stdout
+
+        ftp.connect(HOST, server.port)
+        wants("the code of another password", refused_code(ftp, "USER anna") + refused_code(ftp, "PASS x"), "331, no refusal530")
+        ftp.login("anna", "secret")
+        ftp.storbinary("STOR new", io.BytesIO(content))
+        too_large = refusal_of_storing(ftp, bytes(MOST_IN_MEMORY + 1))
+        wants("the code of too large a file", too_large, "451")
+        status, listing = run()
+        wants("the listing", (status, [(line.split()[4], line.split()[-1]) for line in listing.splitlines()]), (0, [(b"256000", b"new")]))
+        wants("the file", run("new"), (0, content))
+        wants("a file that is absent", run("absent"), (1, b""))
+        wants("its size", ftp.size("new"), len(content))
+        wants("the code of DELE", ftp.sendcmd("DELE new")[:3], "250")
+        for line in ["DELE new", "SIZE new", "CWD below"]:
+            wants(f"the code of {line}", refused_code(ftp, line)[:1], "5")
+        wants("the names that are left", ftp.nlst(), [])
+        wants("the code of QUIT", ftp.quit()[:3], "221")
+    return f"{len(content):,} bytes"
+
+
 CHECKS = {
     "codes": check_codes,
     "public": check_public,
@@ -590,6 +637,7 @@ CHECKS = {
     "stop": check_stop,
     "files": check_files,
     "transfer": check_transfer,
+    "in_memory": check_in_memory,
     "proxy": check_proxy,
     "filter": check_filter,
     "speed": check_speed,
