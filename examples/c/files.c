@@ -263,6 +263,10 @@ static void answer_event(struct session *session, const struct control_line *lin
     case UNFTP_RETR: case UNFTP_STOR: transfer_file(session, line); break;
     case UNFTP_LIST: transfer_names(session, true); break;
     case UNFTP_NLST: transfer_names(session, false); break;
+    case UNFTP_ABOR:
+        data_port_close(&session->data);
+        answer(session, UNFTP_CODE_CLOSING_DATA_CONNECTION, "No transfer is under way");
+        break;
     default: control_usual_reply(&session->control, line);
     }
 }
