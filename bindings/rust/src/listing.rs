@@ -41,9 +41,9 @@ pub struct FileStatus {
     pub mode: u32,
     /// How many names it has.
     pub links: u32,
-    /// The user that it belongs to, or 0 where that is not told.
+    /// The user that it belongs to, or 0 where none is shown.
     pub uid: u32,
-    /// The group that it belongs to, or 0 where that is not told.
+    /// The group that it belongs to, or 0 where none is shown.
     pub gid: u32,
     /// Its length in bytes.
     pub size: u64,
